@@ -1,0 +1,9 @@
+pub mod Lists
+pub mod Sizes
+pub mod Ready
+pub mod Writing
+pub mod Within
+pub mod Starts
+pub mod RoundTrip
+pub mod WellRead
+pub mod One

@@ -1,0 +1,143 @@
+-- What is built reads back: over the definitions for every frame that can be built, and then of what `build` leaves in the lent buffer.
+-- Assumes nothing.
+use mathlib.Core.Path.{_≡_, refl, sym, ap, _∙_, subst}
+use mathlib.Core.Bool.{Bool, true, false, not, false≢true}
+use mathlib.Core.List.{List, [], _∷_, _++_, append-nil}
+use Prim.Native.Nat.{ℕ, _+_, _%_, _≤_}
+use native.Mathlib.Omega.{arith}
+use borrow.Author.Tests.{eq-eqb, ne-eqb, eqb-true}
+use lib.Dec.{eqb}
+use lib.ListN.{length, getD, take, drop}
+use lib.Seq.{take-at, getD-at}
+use Rattle.base.specs.Choice.{if_then_else_}
+use Rattle.base.specs.Numbers.{taken}
+use Rattle.keys.specs.Keys.{goodPair, takesForm}
+use Rattle.keys.specs.declared.Form.{Form}
+use Rattle.keys.specs.declared.Form.the-variants.{Plain, Physical, Functional, Foreign}
+use Rattle.frame.specs.Layout.{formNumbered, numberOf, headSize, total, checksumOf, bodyOf, frameOf, carried}
+use Rattle.frame.specs.Build.{placeFor, planned, sizeOf, buildNo, notBuilt, builtOf, over, bufferAfter, Builds}
+use Rattle.frame.specs.Read.{laidOf, judged, readOf, dataOf}
+use Rattle.frame.specs.declared.Place.{Place}
+use Rattle.frame.specs.declared.Plan.{Plan}
+use Rattle.frame.specs.declared.Built.{Built}
+use Rattle.frame.specs.declared.Laid.{Laid}
+use Rattle.frame.specs.declared.Reading.{Reading}
+use Rattle.frame.proofs.Lists.{over-front}
+use Rattle.frame.proofs.Sizes.{head-le, body-length, frame-length}
+use Rattle.frame.proofs.Ready.{Ready, length-byte, NoneRefuses, none-refuses}
+use Rattle.frame.proofs.Starts.{Starts, frame-starts, starts-laid}
+
+-- What it means that `frame` reads back as this form, these addresses and this data. The first is said of the frame and anything behind it.
+pub record ReadsBack (kb1 kb2 : ℕ) (form : Form) (t s : ℕ) (d frame : List ℕ) : Type 0 where
+  -- where the data starts
+  pub start : ℕ
+  -- the front of whatever starts with the frame lays out this frame; so its end is fixed by its front
+  pub laid : (rest : List ℕ) → laidOf kb1 (frame ++ rest) ≡ record { no = taken; form = form; start = start; len = length d }
+  pub ends : start + length d + 1 ≡ length frame
+  -- exactly the frame reads well
+  pub reading : readOf kb1 kb2 frame ≡ record { no = taken; form = numberOf form; target = carried form t; source = carried form s; start = start; len = length d }
+  pub contents : dataOf kb1 kb2 frame ≡ d
+
+module _ (kb1 kb2 : ℕ) (form : Form) (place : Place) (t s : ℕ) (d : List ℕ) (r : Ready kb1 kb2 form place (length d)) where
+  frame-laid : (rest : List ℕ) → laidOf kb1 (frameOf form place t s d ++ rest) ≡ record { no = taken; form = form; start = headSize form place; len = length d }
+  frame-laid rest =
+      starts-laid kb1 (frameOf form place t s d ++ rest) form place t s d (r .takes) (r .placed) (frame-starts kb1 form place t s d (r .placed) rest)
+
+  whole-starts : Starts kb1 (frameOf form place t s d) form place t s d
+  whole-starts =
+      subst (λ (S : List ℕ). Starts kb1 S form place t s d) (append-nil (frameOf form place t s d)) (frame-starts kb1 form place t s d (r .placed) [])
+
+  whole-laid : laidOf kb1 (frameOf form place t s d) ≡ record { no = taken; form = form; start = headSize form place; len = length d }
+  whole-laid = starts-laid kb1 (frameOf form place t s d) form place t s d (r .takes) (r .placed) whole-starts
+
+  -- the last byte is the checksum of those before it
+  sum-right : checksumOf (take (headSize form place + length d) (frameOf form place t s d)) ≡ getD (frameOf form place t s d) (headSize form place + length d) 0
+  unfolding frameOf
+  sum-right =
+      let body = bodyOf form place t s d in
+      let e = body-length form place t s d in
+      ap checksumOf (take-at body (checksumOf body ∷ []) (headSize form place + length d) e)
+      ∙ sym (getD-at body (checksumOf body) [] 0 (headSize form place + length d) e)
+
+  frame-read : readOf kb1 kb2 (frameOf form place t s d)
+      ≡ record { no = taken; form = numberOf form; target = carried form t; source = carried form s; start = headSize form place; len = length d }
+  unfolding readOf judged
+  frame-read =
+      rw (
+        r .good,
+        whole-laid,
+        eq-eqb (length (frameOf form place t s d)) (headSize form place + length d + 1) (frame-length form place t s d),
+        eq-eqb (checksumOf (take (headSize form place + length d) (frameOf form place t s d))) (getD (frameOf form place t s d) (headSize form place + length d) 0) sum-right,
+        whole-starts .target-is,
+        whole-starts .source-is,
+      )
+
+  -- EVERY FRAME THAT CAN BE BUILT READS BACK, also as the front of more
+  pub frame-reads-back : ReadsBack kb1 kb2 form t s d (frameOf form place t s d)
+  unfolding dataOf
+  frame-reads-back = record {
+    start = headSize form place;
+    laid = frame-laid;
+    ends = sym (frame-length form place t s d);
+    reading = frame-read;
+    contents = rw frame-read (whole-starts .data-is);
+  }
+
+  -- A FRAME HAS AT MOST 260 BYTES
+  pub frame-small : length (frameOf form place t s d) ≤ 260
+  frame-small = omega (arith, frame-length form place t s d, head-le form place, length-byte kb1 place (length d) (r .placed))
+
+-- THE CHECKSUM IS THE SUM OF ALL BYTES BEFORE IT, MODULO 256: of every frame, in its last byte
+pub checksum-last : (form : Form) (place : Place) (t s : ℕ) (d : List ℕ)
+    → frameOf form place t s d ≡ bodyOf form place t s d ++ ((total (bodyOf form place t s d) % 256) ∷ [])
+unfolding frameOf checksumOf
+checksum-last form place t s d = refl
+
+-- a form that key bytes take has its number back
+number-back : (kb1 n : ℕ) → takesForm kb1 (formNumbered n) ≡ true → numberOf (formNumbered n) ≡ n
+unfolding formNumbered numberOf takesForm
+number-back kb1 n h = by-number (eqb n 0) (eqb n 1) (eqb n 2) refl refl refl h
+  where
+    by-number : (a b c : Bool) → eqb n 0 ≡ a → eqb n 1 ≡ b → eqb n 2 ≡ c
+        → takesForm kb1 (if a then Plain else if b then Physical else if c then Functional else Foreign) ≡ true
+        → numberOf (if a then Plain else if b then Physical else if c then Functional else Foreign) ≡ n
+    by-number true b c ea eb ec h = sym (eqb-true n 0 ea)
+    by-number false true c ea eb ec h = sym (eqb-true n 1 eb)
+    by-number false false true ea eb ec h = sym (eqb-true n 2 ec)
+    by-number false false false ea eb ec h = absurd (false≢true h)
+
+-- the number of an answer
+built-no : (p : Plan) (n room : ℕ) → builtOf p n room .no ≡ buildNo p n room
+unfolding builtOf
+built-no p n room = by-no (eqb (buildNo p n room) taken) refl
+  where
+    by-no : (b : Bool) → eqb (buildNo p n room) taken ≡ b → (if b then record { no = taken; len = sizeOf p n } else notBuilt (buildNo p n room)) .no ≡ buildNo p n room
+    by-no true e = sym (eqb-true (buildNo p n room) taken e)
+    by-no false e = refl
+
+-- what `build` left, where it answers 0
+pub record BuiltReadsBack (p : Plan) (bytes out : List ℕ) (r : Built) (after : List ℕ) : Type 0 where
+  -- the frame stands at the front, and what stood behind it still does
+  pub frame : List ℕ
+  pub size : r .len ≡ length frame
+  pub memory : after ≡ frame ++ drop (length frame) out
+  -- and it reads back with its form, the addresses it carries, and its data
+  pub form-number : numberOf (formNumbered (p .form)) ≡ p .form
+  pub reads-back : ReadsBack (p .kb1) (p .kb2) (formNumbered (p .form)) (p .target) (p .source) bytes frame
+
+-- WHAT `build` BUILDS READS BACK
+pub built-reads-back : (p : Plan) (bytes out : List ℕ) (r : Built) (after : List ℕ) → Builds p bytes out r after → r .no ≡ taken → BuiltReadsBack p bytes out r after
+unfolding builtOf bufferAfter over planned sizeOf
+built-reads-back p bytes out r after b e =
+    let n = length bytes in
+    let no : buildNo p n (length out) ≡ taken = sym (built-no p n (length out)) ∙ ap (λ (k : Built). k .no) (sym (b .answer)) ∙ e in
+    let x = none-refuses p n (length out) no in
+    record {
+      frame = planned p bytes;
+      size =
+          ap (λ (k : Built). k .len) (b .answer) ∙ rw (eq-eqb (buildNo p n (length out)) taken no)
+          (sym (frame-length (formNumbered (p .form)) (placeFor (p .kb1) n) (p .target) (p .source) bytes));
+      memory = b .memory ∙ rw (eq-eqb (buildNo p n (length out)) taken no);
+      form-number = number-back (p .kb1) (p .form) (x .ready .takes);
+      reads-back = frame-reads-back (p .kb1) (p .kb2) (formNumbered (p .form)) (placeFor (p .kb1) n) (p .target) (p .source) bytes (x .ready);
+    }

@@ -1,0 +1,20 @@
+-- `frame::layout::number_of` meets its contract: at each return, the tests and matches on the way there pick the case of the definition.
+-- Assumes nothing.
+use borrow.Author.Needs.{needs}
+use Rattle.frame.specs.Layout.{numberOf}
+use Rattle.frame.proofs.layout.number_of.Statement.{statement}
+use Rattle.frame.proofs.layout.number_of.Tie as tie
+
+pub number-of-spec : {M : Type 1} → statement M
+unfolding numberOf
+number-of-spec =
+    tie.close
+    (tie.spec
+    (λ c. search needs)
+    (λ c. search needs)
+    (λ c. search needs)
+    (λ c. search needs)
+    (λ c. rw (c .enum-told .given .1))
+    (λ c. rw (c .enum-told2 .given .1))
+    (λ c. rw (c .enum-told3 .given .1))
+    (λ c. rw (c .enum-told4 .given .1)))

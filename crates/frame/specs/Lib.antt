@@ -1,0 +1,3 @@
+pub mod Layout
+pub mod Build
+pub mod Read

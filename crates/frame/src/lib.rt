@@ -1,0 +1,51 @@
+// Frames: built into a lent buffer, and read from a slice that must be exactly one frame.
+mod builder;
+mod layout;
+mod reader;
+
+pub use builder::build;
+pub use layout::format_form;
+pub use reader::contents;
+pub use reader::read;
+
+// Where a length stands: in the format byte, in an extra byte behind the addresses, or nowhere.
+pub enum Place {
+    Format,
+    Extra,
+    Nowhere,
+}
+
+// What to build: the key bytes, the form (0 none, 1 physical, 2 functional) and the addresses.
+pub struct Plan {
+    pub kb1: u8,
+    pub kb2: u8,
+    pub form: u8,
+    pub target: u8,
+    pub source: u8,
+}
+
+// The answer of building: the number, and the frame's length, 0 beside a refusal.
+pub struct Built {
+    pub no: u8,
+    pub len: usize,
+}
+
+// What the front of a slice says of a frame that starts there: the number, the form, where the
+// data starts and how long it is.
+pub struct Laid {
+    pub no: u8,
+    pub form: keys::Form,
+    pub start: u8,
+    pub len: u8,
+}
+
+// The answer of reading: the number, the form and the addresses, and where in the slice the data
+// starts and how long it is. All 0 beside a refusal.
+pub struct Reading {
+    pub no: u8,
+    pub form: u8,
+    pub target: u8,
+    pub source: u8,
+    pub start: usize,
+    pub len: usize,
+}

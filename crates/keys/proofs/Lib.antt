@@ -1,0 +1,2 @@
+pub mod Eighteen
+pub mod One

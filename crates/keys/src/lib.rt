@@ -1,0 +1,84 @@
+// Key bytes: which pairs are good, and what KB1 announces.
+ghost use mathlib.Core.Path.{_≡_};
+ghost use Rattle.keys.specs.Keys.{lengthInFormat, extraLength, noAddresses, withAddresses, isExtended, goodPair, takesForm};
+
+// The form of a frame. Foreign is what is none of ours: mode 01 (CARB) of a format byte, or a form
+// number above 2.
+pub enum Form {
+    Plain,
+    Physical,
+    Functional,
+    Foreign,
+}
+
+// Whether a pair of key bytes is good.
+pub fn good_pair(kb1: u8, kb2: u8) -> bool
+    ensures { λ r. ⌜ r ≡ goodPair kb1 kb2 ⌝ }
+{
+    let b0 = kb1 % 2;
+    let b1 = kb1 / 2 % 2;
+    let b2 = kb1 / 4 % 2;
+    let b3 = kb1 / 8 % 2;
+    let b4 = kb1 / 16 % 2;
+    let b5 = kb1 / 32 % 2;
+    let b6 = kb1 / 64 % 2;
+    let b7 = kb1 / 128 % 2;
+    let ones = b0 + b1 + b2 + b3 + b4 + b5 + b6 + b7;
+    (kb2 == 0x8F)
+        & (ones % 2 == 1)
+        & (b6 == 1)
+        & (b4 + b5 == 1)
+        & ((b0 == 1) | (b1 == 1))
+        & ((b2 == 1) | (b3 == 1))
+}
+
+// Whether KB1 announces a length in the format byte.
+pub fn length_in_format(kb1: u8) -> bool
+    ensures { λ r. ⌜ r ≡ lengthInFormat kb1 ⌝ }
+{
+    kb1 % 2 == 1
+}
+
+// Whether KB1 announces an extra length byte.
+pub fn extra_length(kb1: u8) -> bool
+    ensures { λ r. ⌜ r ≡ extraLength kb1 ⌝ }
+{
+    kb1 / 2 % 2 == 1
+}
+
+// Whether KB1 announces frames with no addresses.
+pub fn no_addresses(kb1: u8) -> bool
+    ensures { λ r. ⌜ r ≡ noAddresses kb1 ⌝ }
+{
+    kb1 / 4 % 2 == 1
+}
+
+// Whether KB1 announces frames with target and source.
+pub fn with_addresses(kb1: u8) -> bool
+    ensures { λ r. ⌜ r ≡ withAddresses kb1 ⌝ }
+{
+    kb1 / 8 % 2 == 1
+}
+
+// Whether KB1 announces extended timing.
+pub fn is_extended(kb1: u8) -> bool
+    ensures { λ r. ⌜ r ≡ isExtended kb1 ⌝ }
+{
+    kb1 / 16 % 2 == 1
+}
+
+// Whether KB1 takes frames of a form.
+pub fn takes_form(kb1: u8, form: Form) -> bool
+    ensures { λ r. ⌜ r ≡ takesForm kb1 form ⌝ }
+{
+    match form {
+        Form::Plain => no_addresses(kb1),
+        Form::Physical => with_addresses(kb1),
+        Form::Functional => {
+            let addressed = with_addresses(kb1);
+            let extended = is_extended(kb1);
+            addressed & !extended
+        }
+        Form::Foreign => false,
+    }
+}

@@ -1,0 +1,34 @@
+-- Any two results that meet a public function's promise are equal. Assumes nothing.
+use mathlib.Core.Path.{_≡_}
+use mathlib.Core.Bool.{Bool}
+use Prim.Native.Nat.{ℕ}
+use Rattle.base.proofs.One.{Only, only}
+use Rattle.units.specs.declared.Micros.{Micros}
+use Rattle.timing.specs.Windows.{untilTime, noLimit, isUnlimited, isPassed, setOf}
+use Rattle.timing.specs.Codes.{decodedOf, encodedOf}
+use Rattle.timing.specs.declared.Limit.{Limit}
+use Rattle.timing.specs.declared.Windows.{Windows}
+use Rattle.timing.specs.declared.Codes.{Codes}
+use Rattle.timing.specs.declared.Decoded.{Decoded}
+use Rattle.timing.specs.declared.Encoded.{Encoded}
+
+pub until : (m : Micros) → Only (λ (r : Limit). r ≡ untilTime m)
+until m = only (untilTime m)
+
+pub no-limit : Only (λ (r : Limit). r ≡ noLimit)
+no-limit = only noLimit
+
+pub is-unlimited : (l : Limit) → Only (λ (r : Bool). r ≡ isUnlimited l)
+is-unlimited l = only (isUnlimited l)
+
+pub passed : (l : Limit) (gap : Micros) → Only (λ (r : Bool). r ≡ isPassed l gap)
+passed l gap = only (isPassed l gap)
+
+pub set-of : (kb1 : ℕ) → Only (λ (r : Windows). r ≡ setOf kb1)
+set-of kb1 = only (setOf kb1)
+
+pub windows-of : (c : Codes) → Only (λ (r : Decoded). r ≡ decodedOf c)
+windows-of c = only (decodedOf c)
+
+pub codes-of : (w : Windows) → Only (λ (r : Encoded). r ≡ encodedOf w)
+codes-of w = only (encodedOf w)

@@ -1,0 +1,102 @@
+-- Timing codes: codes become windows and windows codes (document 01, "Timing"; 000, table 5).
+-- A departure from ISO 14230-2:1999: its table 5 prints 83 600 ms for FE. By its own rule, and document 01's, FE is 14 times 6,400 ms, 89,600.
+-- Assumes nothing.
+use Prim.Native.Nat.{ℕ, _+_, _*_, _/_, _%_}
+use mathlib.Core.Bool.{Bool, _&&_}
+use lib.Dec.{eqb, leb}
+use Rattle.base.specs.Choice.{if_then_else_}
+use Rattle.base.specs.Numbers.{taken, badTiming}
+use Rattle.units.specs.Units.{micros, halfMs, step250, microsOfHalf, microsOf250, halfOf, steps25Of, steps250Of, isSame}
+use Rattle.units.specs.declared.Micros.{Micros}
+use Rattle.units.specs.declared.HalfMs.{HalfMs}
+use Rattle.units.specs.declared.Step25.{Step25}
+use Rattle.timing.specs.Windows.{untilTime, noLimit, isUnlimited, isAllowed}
+use Rattle.timing.specs.declared.Limit.{Limit}
+use Rattle.timing.specs.declared.Windows.{Windows}
+use Rattle.timing.specs.declared.Codes.{Codes}
+use Rattle.timing.specs.declared.Decoded.{Decoded}
+use Rattle.timing.specs.declared.Encoded.{Encoded}
+
+-- "Minima count 0.5 ms."
+unfoldable pub minOf : ℕ → Micros
+minOf code = microsOfHalf (halfMs code)
+
+-- "P2 max: 01 to F0 count 25 ms, F1 to FE give 6,400 ms times the low four bits, FF no limit, 00 not allowed": in half milliseconds, 0 for
+-- the two codes that give no number. 00 is then a maximum of 0, and no minimum is below it.
+unfoldable pub p2Half : ℕ → HalfMs
+p2Half code = halfMs (if leb code 0xF0 then 50 * code else if leb code 0xFE then 12_800 * (code % 16) else 0)
+
+unfoldable pub p2MaxOf : ℕ → Limit
+p2MaxOf code = if eqb code 0xFF then noLimit else untilTime (microsOfHalf (p2Half code))
+
+-- "P3 max counts 250 ms, FF is no limit."
+unfoldable pub p3MaxOf : ℕ → Limit
+p3MaxOf code = if eqb code 0xFF then noLimit else untilTime (microsOf250 (step250 code))
+
+-- "Five code bytes: P2 min, P2 max, P3 min, P3 max, P4 min."
+unfoldable pub windowsBy : Codes → Windows
+windowsBy c = record {
+  p2min = minOf (c .p2min);
+  p2max = p2MaxOf (c .p2max);
+  p3min = minOf (c .p3min);
+  p3max = p3MaxOf (c .p3max);
+  p4min = minOf (c .p4min);
+}
+
+-- "Codes become windows": those they stand for if these are allowed, else 10
+abbrev pub notDecoded : Decoded
+notDecoded = record {
+  no = badTiming;
+  windows = record {
+    p2min = micros 0;
+    p2max = untilTime (micros 0);
+    p3min = micros 0;
+    p3max = untilTime (micros 0);
+    p4min = micros 0;
+  };
+}
+
+unfoldable pub decodedOf : Codes → Decoded
+decodedOf c = if isAllowed (windowsBy c) then record { no = taken; windows = windowsBy c } else notDecoded
+
+-- The one code that can give a time: its whole steps, as far as a byte goes. Whether it does give it is asked by `sameWindows`.
+unfoldable pub byteOf : ℕ → ℕ
+byteOf n = if leb n 255 then n else 255
+
+unfoldable pub minCode : Micros → ℕ
+minCode m = byteOf (halfOf m .0)
+
+-- 6,400 ms are 256 steps of 25 ms
+unfoldable pub p2StepsCode : Step25 → ℕ
+p2StepsCode s = if leb (s .0) 0xF0 then s .0 else byteOf (0xF0 + s .0 / 256)
+
+unfoldable pub p2Code : Limit → ℕ
+p2Code l = if isUnlimited l then 0xFF else p2StepsCode (steps25Of (l .0))
+
+unfoldable pub p3Code : Limit → ℕ
+p3Code l = if isUnlimited l then 0xFF else byteOf (steps250Of (l .0) .0)
+
+unfoldable pub codesBy : Windows → Codes
+codesBy w = record {
+  p2min = minCode (w .p2min);
+  p2max = p2Code (w .p2max);
+  p3min = minCode (w .p3min);
+  p3max = p3Code (w .p3max);
+  p4min = minCode (w .p4min);
+}
+
+unfoldable pub sameWindows : Windows → Windows → Bool
+sameWindows a b =
+    isSame (a .p2min) (b .p2min)
+    && isSame (a .p2max .0) (b .p2max .0)
+    && isSame (a .p3min) (b .p3min)
+    && isSame (a .p3max .0) (b .p3max .0)
+    && isSame (a .p4min) (b .p4min)
+
+-- "Windows [become] codes; a window no code gives is 10": codes that give these windows back, if they are allowed, else 10
+abbrev pub notEncoded : Encoded
+notEncoded = record { no = badTiming; codes = record { p2min = 0; p2max = 0; p3min = 0; p3max = 0; p4min = 0 } }
+
+unfoldable pub encodedOf : Windows → Encoded
+encodedOf w =
+    if isAllowed w && sameWindows (windowsBy (codesBy w)) w then record { no = taken; codes = codesBy w } else notEncoded
