@@ -99,9 +99,10 @@ fn write(form: Form, place: Place, p: Plan, bytes: &[u8], out: &mut [u8]) -> usi
     let h = put_head(form, place, p, n as u8, out);
     put_data(bytes, h, out);
     let e = h + n;
+    let end = e + 1;
     let c = layout::checksum(&out[..e]);
     out[e] = c;
-    e + 1
+    end
 }
 
 // Builds a frame at the front of `out`, and touches nothing behind it. A refusal touches nothing at

@@ -5,7 +5,7 @@ use crate::Place;
 use keys::Form;
 
 // The form that a number names.
-pub fn form_numbered(n: u8) -> Form
+pub(crate) fn form_numbered(n: u8) -> Form
     ensures { λ r. ⌜ r ≡ formNumbered n ⌝ }
 {
     if n == 0 {
@@ -21,7 +21,7 @@ pub fn form_numbered(n: u8) -> Form
 }
 
 // The number of a form.
-pub fn number_of(form: Form) -> u8
+pub(crate) fn number_of(form: Form) -> u8
     ensures { λ r. ⌜ r ≡ numberOf form ⌝ }
 {
     match form {
@@ -33,7 +33,7 @@ pub fn number_of(form: Form) -> u8
 }
 
 // The top two bits of a form's format byte.
-pub fn top_bits(form: Form) -> u8
+pub(crate) fn top_bits(form: Form) -> u8
     ensures { λ r. ⌜ r ≡ topBits form ⌝ }
 {
     match form {
@@ -61,7 +61,7 @@ pub fn format_form(f: u8) -> Form
 }
 
 // The low six bits of the format byte for a length.
-pub fn low_bits(place: Place, n: u8) -> u8
+pub(crate) fn low_bits(place: Place, n: u8) -> u8
     ensures { λ r. ⌜ r ≡ lowBits place n ⌝ }
 {
     match place {
@@ -72,7 +72,7 @@ pub fn low_bits(place: Place, n: u8) -> u8
 }
 
 // How many address bytes a form carries.
-pub fn address_count(form: Form) -> u8
+pub(crate) fn address_count(form: Form) -> u8
     ensures { λ r. ⌜ r ≡ addressCount form ⌝ }
 {
     match form {
@@ -84,7 +84,7 @@ pub fn address_count(form: Form) -> u8
 }
 
 // How many extra length bytes there are.
-pub fn extra_count(place: Place) -> u8
+pub(crate) fn extra_count(place: Place) -> u8
     ensures { λ r. ⌜ r ≡ extraCount place ⌝ }
 {
     match place {
@@ -95,14 +95,14 @@ pub fn extra_count(place: Place) -> u8
 }
 
 // How many bytes stand before the data.
-pub fn head_size(form: Form, place: Place) -> u8
+pub(crate) fn head_size(form: Form, place: Place) -> u8
     ensures { λ r. ⌜ r ≡ headSize form place ⌝ }
 {
     1 + address_count(form) + extra_count(place)
 }
 
 // An address as a frame of this form carries it.
-pub fn carried_by(form: Form, address: u8) -> u8
+pub(crate) fn carried_by(form: Form, address: u8) -> u8
     ensures { λ r. ⌜ r ≡ carried form address ⌝ }
 {
     match form {
@@ -114,7 +114,7 @@ pub fn carried_by(form: Form, address: u8) -> u8
 }
 
 // Whether a length has no place.
-pub fn is_nowhere(place: Place) -> bool
+pub(crate) fn is_nowhere(place: Place) -> bool
     ensures { λ r. ⌜ r ≡ isNowhere place ⌝ }
 {
     match place {
@@ -125,7 +125,7 @@ pub fn is_nowhere(place: Place) -> bool
 }
 
 // The sum of all bytes, modulo 256.
-pub fn checksum(s: &[u8]) -> u8
+pub(crate) fn checksum(s: &[u8]) -> u8
     ensures { λ r. ⌜ r ≡ checksumOf (now (s .entry)) ⌝ }
 {
     let mut sum: u32 = 0;

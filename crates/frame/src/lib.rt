@@ -9,7 +9,7 @@ pub use reader::contents;
 pub use reader::read;
 
 // Where a length stands: in the format byte, in an extra byte behind the addresses, or nowhere.
-pub enum Place {
+enum Place {
     Format,
     Extra,
     Nowhere,
@@ -32,7 +32,7 @@ pub struct Built {
 
 // What the front of a slice says of a frame that starts there: the number, the form, where the
 // data starts and how long it is.
-pub struct Laid {
+struct Laid {
     pub no: u8,
     pub form: keys::Form,
     pub start: u8,

@@ -39,10 +39,11 @@ fn byte_at(s: &[u8], i: usize) -> u8
 fn length_read(s: &[u8], f: u8, at: usize) -> u8
     ensures { λ r. ⌜ r ≡ lengthRead (now (s .entry)) f at ⌝ }
 {
-    if f % 64 == 0 {
+    let low = f % 64;
+    if low == 0 {
         return byte_at(s, at);
     }
-    f % 64
+    low
 }
 
 fn not_laid(no: u8) -> Laid
@@ -110,7 +111,8 @@ fn judge(s: &[u8], l: Laid) -> Reading
     let start = l.start as usize;
     let len = l.len as usize;
     let e = start + len;
-    if s.len() != e + 1 {
+    let end = e + 1;
+    if s.len() != end {
         return not_read(base::BAD_LENGTH);
     }
     let c = layout::checksum(&s[..e]);

@@ -264,7 +264,7 @@ const P2_MAX: [u32; 256] = [
 ];
 
 // P2 max by its code byte, read off the table.
-pub fn p2_half(code: u8) -> HalfMs
+pub(crate) fn p2_half(code: u8) -> HalfMs
     ensures { λ r. ⌜ r ≡ p2Half code ⌝ }
 {
     HalfMs(P2_MAX[code as usize])

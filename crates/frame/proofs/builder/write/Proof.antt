@@ -22,6 +22,9 @@ put-data-requires c κs = search needs
 add-e : tie.Need-add-e
 add-e c = search needs
 
+add-end : tie.Need-add-end
+add-end c = search needs
+
 slice-reshare-prefix-checksum : tie.Need-slice-reshare-prefix-checksum
 slice-reshare-prefix-checksum c = search needs
 
@@ -33,9 +36,6 @@ checksum-requires c κs = search needs
 
 slice-write-out : tie.Need-slice-write-out
 slice-write-out c = search needs
-
-add-result : tie.Need-add-result
-add-result c = search needs
 
 same-length : tie.Need-same-length
 same-length c =
@@ -62,10 +62,10 @@ write-spec =
     put-head-requires
     put-data-requires
     add-e
+    add-end
     slice-reshare-prefix-checksum
     slice-aggregate-checksum
     checksum-requires
     slice-write-out
-    add-result
     same-length
     returns)
