@@ -1,0 +1,307 @@
+#!/usr/bin/env python3
+"""Works out what the program `sweep` must print, from the rules and not from this repository's definitions.
+
+The rules are document 01's, "Key bytes", "Frames" and "Timing": they are written down here a second time, in another language and in other
+terms (tables, lists of bytes, sets of values), so that a rule misread in one place shows as a difference.
+Use: tests/reference.py > crates/sweep/stdout, or, to compare, tests/reference.py | diff crates/sweep/stdout -
+"""
+
+GOOD_KB1 = bytes.fromhex("D5D657D9DA5B5D5EDFE5E667E9EA6B6D6EEF")
+PHYSICAL, FUNCTIONAL = 1, 2
+NO_LIMIT = "no limit"
+
+
+# ---- key bytes
+
+
+def bits(kb1):
+    return [int(b) for b in reversed(format(kb1, "08b"))]
+
+
+def is_good(kb1, kb2):
+    b = bits(kb1)
+    conditions = (
+        kb2 == 0x8F,
+        sum(b) in (1, 3, 5, 7),
+        b[6],
+        (b[4], b[5]) in ((0, 1), (1, 0)),
+        b[0] or b[1],
+        b[2] or b[3],
+    )
+    return all(conditions)
+
+
+def forms_taken(kb1):
+    b = bits(kb1)
+    taken = set()
+    if b[2]:
+        taken.add(0)
+    if b[3]:
+        taken.add(PHYSICAL)
+        if not b[4]:
+            taken.add(FUNCTIONAL)
+    return taken
+
+
+# ---- frames
+
+
+def frame_of(kb1, form, target, source, data):
+    """The frame, or None where its length has no place."""
+    b = bits(kb1)
+    top = {0: 0b00, PHYSICAL: 0b10, FUNCTIONAL: 0b11}[form] << 6
+    n = len(data)
+    if b[0] and n in range(1, 64):
+        low, extra = n, []
+    elif b[1] and n in range(1, 256):
+        low, extra = 0, [n]
+    else:
+        return None
+    frame = [top | low] + ([target, source] if form else []) + extra + list(data)
+    return frame + [sum(frame) & 0xFF]
+
+
+def build(kb1, kb2, form, target, source, data, out):
+    """The number and the length; writes into out."""
+    if not is_good(kb1, kb2):
+        return 5, 0
+    if form not in forms_taken(kb1):
+        return 6, 0
+    frame = frame_of(kb1, form, target, source, data)
+    if frame is None:
+        return 7, 0
+    if len(frame) > len(out):
+        return 8, 0
+    out[: len(frame)] = frame
+    return 0, len(frame)
+
+
+def read(kb1, kb2, s):
+    """number, form, target, source, start, length."""
+
+    def refuse(no):
+        return no, 0, 0, 0, 0, 0
+
+    if not is_good(kb1, kb2):
+        return refuse(5)
+    if not s:
+        return refuse(7)
+    form = {0b00: 0, 0b01: None, 0b10: PHYSICAL, 0b11: FUNCTIONAL}[s[0] >> 6]
+    if form not in forms_taken(kb1):
+        return refuse(6)
+    rest = list(s[1:])
+    target = source = 0
+    low = s[0] & 0b111111
+    if not bits(kb1)[0 if low else 1]:
+        return refuse(7)
+    try:
+        if form:
+            target, source = rest.pop(0), rest.pop(0)
+        n = low or rest.pop(0)
+    except IndexError:
+        return refuse(7)
+    if n == 0 or len(rest) != n + 1:
+        return refuse(7)
+    if sum(s[:-1]) % 256 != s[-1]:
+        return refuse(9)
+    return 0, form, target, source, len(s) - 1 - n, n
+
+
+# ---- timing, in microseconds
+
+P2_MAX = {code: 25_000 * code for code in range(0x01, 0xF1)}
+P2_MAX.update({0xF0 + k: 6_400_000 * k for k in range(1, 15)})
+P2_MAX[0xFF] = NO_LIMIT
+P3_MAX = {code: 250_000 * code for code in range(0x00, 0xFF)}
+P3_MAX[0xFF] = NO_LIMIT
+MINIMUM = {code: 500 * code for code in range(256)}
+
+
+def under(low, high):
+    return high == NO_LIMIT or low < high
+
+
+def allowed(p2min, p2max, p3min, p3max, p4min):
+    return under(p2min, p2max) and under(p3min, p3max) and p4min < 20_000 and p3min > p4min
+
+
+def decode(codes):
+    a, b, c, d, e = codes
+    if b in P2_MAX:
+        windows = (MINIMUM[a], P2_MAX[b], MINIMUM[c], P3_MAX[d], MINIMUM[e])
+        if allowed(*windows):
+            return 0, windows
+    return 10, (0, 0, 0, 0, 0)
+
+
+def encode(windows):
+    found = []
+    for value, table in zip(windows, (MINIMUM, P2_MAX, MINIMUM, P3_MAX, MINIMUM)):
+        codes = [code for code, stands in table.items() if stands == value and type(stands) is type(value)]
+        found.append(codes)
+    if all(len(codes) == 1 for codes in found) and allowed(*windows):
+        return 0, tuple(codes[0] for codes in found)
+    return 10, (0, 0, 0, 0, 0)
+
+
+# ---- what the program makes up, counts and mixes
+
+
+def mix(d, *xs):
+    for x in xs:
+        d = (d * 31 + x) % 2**32
+    return d
+
+
+def mix_wide(d, x):
+    return mix(d, x >> 32, x % 2**32)
+
+
+def mix_windows(d, windows):
+    for w in windows:
+        d = mix(d, 77) if w == NO_LIMIT else mix_wide(d, w)
+    return d
+
+
+def after(seed, times=1):
+    for _ in range(times):
+        seed = (seed * 1664525 + 1013904223) % 2**32
+    return seed
+
+
+def top(seed):
+    return seed // 65536
+
+
+class Tally:
+    def __init__(self, what):
+        self.what, self.taken, self.back, self.digest = what, 0, 0, 0
+
+    def show(self):
+        print(self.what)
+        print(f"  taken: {self.taken}\n  came back: {self.back}\n  digest: {self.digest}")
+
+    def codes(self, codes):
+        no, windows = decode(codes)
+        self.digest = mix_windows(mix(self.digest, no), windows)
+        if no == 0:
+            self.taken += 1
+            self.back += encode(windows) == (0, tuple(codes))
+
+    def windows(self, windows):
+        no, codes = encode(windows)
+        self.digest = mix(self.digest, no, *codes)
+        if no == 0:
+            self.taken += 1
+            self.back += decode(codes) == (0, windows)
+
+    def frame(self, seed):
+        data, out = made_bytes(seed, 260), made_bytes(after(seed), 270)
+        a = after(seed)
+        b = after(a)
+        kb1, kb2, form = made_kb1(a), made_kb2(b), top(a) % 4
+        target, source = top(b) % 256, top(after(b)) % 256
+        n, room = made_length(mix(seed, 1)), made_room(mix(seed, 2))
+        lent = out[:room]
+        no, size = build(kb1, kb2, form, target, source, data[:n], lent)
+        out[:room] = lent
+        self.taken += no == 0
+        self.digest = mix(mix_wide(mix(self.digest, no), size), *out)
+        damage(mix(seed, 3), size, out)
+        s = out[: made_end(mix(seed, 4), size)]
+        no, form, target, source, start, length = read(kb1, kb2, s)
+        self.back += no == 0
+        self.digest = mix(self.digest, no, form, target, source)
+        self.digest = mix_wide(mix_wide(self.digest, start), length)
+        self.digest = mix(self.digest, *s[start : start + length])
+
+
+def made_bytes(seed, n):
+    made = []
+    for _ in range(n):
+        seed = after(seed)
+        made.append(top(seed) % 256)
+    return made
+
+
+def made_kb1(seed):
+    s = after(seed)
+    return top(after(s)) % 256 if top(s) % 8 == 0 else GOOD_KB1[top(after(s)) % 18]
+
+
+def made_kb2(seed):
+    s = after(seed)
+    return top(after(s)) % 256 if top(s) % 16 == 0 else 0x8F
+
+
+def made_length(seed):
+    s = after(seed)
+    return top(after(s)) % (70 if top(s) % 2 == 0 else 261)
+
+
+def made_room(seed):
+    s = after(seed)
+    return 270 if top(s) % 2 == 0 else top(after(s)) % 271
+
+
+def made_end(seed, size):
+    return {0: 270, 1: size + 1, 2: max(size - 1, 0)}.get(top(after(seed)) % 6, size)
+
+
+def damage(seed, size, out):
+    s = after(seed)
+    if top(s) % 3 == 0:
+        at = top(after(s)) % (size + 1)
+        out[at] = (out[at] + 1 + top(s) % 255) % 256
+
+
+def made_codes(seed):
+    seeds = [after(seed, k) for k in range(1, 6)]
+    return tuple(top(s) % m for s, m in zip(seeds, (256, 256, 256, 256, 64)))
+
+
+def made_time(seed, step, most):
+    s = after(seed)
+    return top(s) % most * step + (top(after(s)) % 8 == 0)
+
+
+def made_limit(seed, step, most):
+    return NO_LIMIT if top(after(seed)) % 8 == 0 else made_time(seed, step, most)
+
+
+def made_windows(seed):
+    seeds = [after(seed, k) for k in range(5)]
+    return (
+        made_time(seeds[0], 500, 300),
+        made_limit(seeds[1], 25_000, 600),
+        made_time(seeds[2], 500, 300),
+        made_limit(seeds[3], 250_000, 300),
+        made_time(seeds[4], 500, 50),
+    )
+
+
+def main():
+    print("good pairs: KB1, KB2, bits 0 to 4, forms taken")
+    good = [(kb1, kb2) for kb1 in range(256) for kb2 in range(256) if is_good(kb1, kb2)]
+    assert sorted(GOOD_KB1) == [kb1 for kb1, _ in good], "the 18 values that the rules list"
+    for kb1, kb2 in good:
+        forms = "".join(str(int(form in forms_taken(kb1))) for form in range(4))
+        print(f"{kb1:02x} {kb2:02x} {''.join(map(str, bits(kb1)[:5]))} {forms}")
+    print(f"good pairs of 65536: {len(good)}")
+    runs = (
+        ("each code of P2 max", 256, lambda t, i: t.codes((0, i, 0x0B, 0x14, 0x0A))),
+        ("each code of P3 max", 256, lambda t, i: t.codes((0x32, 0x02, 0x6E, i, 0x0A))),
+        ("each code of P3 min with each of P4 min", 65536, lambda t, i: t.codes((0, 1, i % 256, 0xFF, i // 256))),
+        ("20000 made-up codes", 20000, lambda t, i: t.codes(made_codes(mix(3, i)))),
+        ("20000 made-up windows", 20000, lambda t, i: t.windows(made_windows(mix(4, i)))),
+        ("20000 made-up frames", 20000, lambda t, i: t.frame(mix(5, i))),
+    )
+    for what, n, case in runs:
+        tally = Tally(what)
+        for i in range(n):
+            case(tally, i)
+        tally.show()
+
+
+if __name__ == "__main__":
+    main()
