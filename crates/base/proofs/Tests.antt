@@ -1,41 +1,33 @@
 -- Laws on tests that every crate cites: a test taken apart, a choice followed both ways, a test computed at each number below a bound.
 -- Assumes nothing.
 use mathlib.Core.Path.{_≡_, refl}
-use mathlib.Core.Bool.{Bool, true, false, _&&_, _||_, false≢true, true≢false}
+use mathlib.Core.Bool.{Bool, true, false, _&&_, _||_, false≢true}
 use mathlib.Core.Logic.{_⊎_, inl, inr, ⊎-elim}
 use Prim.Native.Nat.{ℕ, zero, suc, _<_}
 use native.Mathlib.Nat.{eq-or-lt-of-le, le-of-suc-le-suc}
 use native.Mathlib.Omega.{arith}
 use Rattle.base.specs.Choice.{if_then_else_}
+use Rattle.base.specs.Numbers.{taken}
 
 -- both tests of a conjunction hold
 pub and-split : (a b : Bool) → (a && b) ≡ true → (a ≡ true) × (b ≡ true)
 and-split true b e = (refl, e)
 and-split false b e = absurd (false≢true e)
 
--- two tests that hold, hold together
-pub and-join : {a b : Bool} → a ≡ true → b ≡ true → (a && b) ≡ true
-and-join p q = rw (p, q)
-
 -- one test of a disjunction holds
 pub or-split : (a b : Bool) → (a || b) ≡ true → (a ≡ true) ⊎ (b ≡ true)
 or-split true b e = inl refl
 or-split false b e = inr e
 
--- a test that does not hold does not hold
-pub not-both : {A : Type 0} {b : Bool} → b ≡ true → b ≡ false → A
-not-both {b = true} p q = absurd (true≢false q)
-not-both {b = false} p q = absurd (false≢true p)
-
--- a test holds or does not
-pub either : (b : Bool) → (b ≡ true) ⊎ (b ≡ false)
-either true = inl refl
-either false = inr refl
-
 -- what holds on both ways of a test holds of what it picks
 pub by-test : {A : Type 0} (P : A → Type 0) (b : Bool) {x y : A} → (b ≡ true → P x) → (b ≡ false → P y) → P (if b then x else y)
 by-test P true f g = f refl
 by-test P false f g = g refl
+
+-- an answer whose number is 0, where the second way gives another number, came by the first
+pub taken-by : {A : Type 0} (number : A → ℕ) (b : Bool) (x y : A) → (number y ≡ taken → ⊥) → number (if b then x else y) ≡ taken → b ≡ true
+taken-by number true x y h e = refl
+taken-by number false x y h e = absurd (h e)
 
 -- a test that antt computes at each number below n, and what it says of one
 abbrev pub upTo : (ℕ → Bool) → ℕ → Bool

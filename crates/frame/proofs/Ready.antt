@@ -1,11 +1,11 @@
 -- What it means that a frame can be built: good key bytes, a form they take, and a length with its place. Assumes nothing.
-use mathlib.Core.Path.{_≡_, refl, sym, ap, _∙_}
+use mathlib.Core.Path.{_≡_, refl, sym, _∙_}
 use mathlib.Core.Bool.{Bool, true, false, _&&_, not, true≢false}
 use mathlib.Core.List.{List}
-use Prim.Native.Nat.{ℕ, _+_, _≤_, _<_}
+use Prim.Native.Nat.{ℕ, _+_, _≤_}
 use native.Mathlib.Omega.{arith}
-use borrow.Author.Tests.{leb-true, not-false, ltb-false, eq-eqb, ne-eqb}
-use lib.Dec.{eqb, leb, ltb}
+use borrow.Author.Tests.{leb-true, ltb-false, eq-eqb, ne-eqb}
+use lib.Dec.{leb, ltb}
 use lib.ListN.{length}
 use Rattle.base.specs.Choice.{if_then_else_}
 use Rattle.base.specs.Numbers.{taken, badKeys, badForm, badLength, noRoom}
@@ -17,7 +17,6 @@ use Rattle.frame.specs.Build.{placeFor, planned, sizeOf, buildNo, notBui
 use Rattle.frame.specs.declared.Place.{Place}
 use Rattle.frame.specs.declared.Place.the-variants.{Format, Extra, Nowhere}
 use Rattle.frame.specs.declared.Plan.{Plan}
-use Rattle.frame.specs.declared.Built.{Built}
 
 -- a length that KB1 announces this place for, and that fits it
 abbrev pub Placed : ℕ → Place → ℕ → Type 0

@@ -1,17 +1,17 @@
 -- What is built reads back: over the definitions for every frame that can be built, and then of what `build` leaves in the lent buffer.
 -- Assumes nothing.
 use mathlib.Core.Path.{_≡_, refl, sym, ap, _∙_, subst}
-use mathlib.Core.Bool.{Bool, true, false, not, false≢true}
+use mathlib.Core.Bool.{Bool, true, false, false≢true}
 use mathlib.Core.List.{List, [], _∷_, _++_, append-nil}
 use Prim.Native.Nat.{ℕ, _+_, _%_, _≤_}
 use native.Mathlib.Omega.{arith}
-use borrow.Author.Tests.{eq-eqb, ne-eqb, eqb-true}
+use borrow.Author.Tests.{eq-eqb, eqb-true}
 use lib.Dec.{eqb}
 use lib.ListN.{length, getD, take, drop}
 use lib.Seq.{take-at, getD-at}
 use Rattle.base.specs.Choice.{if_then_else_}
 use Rattle.base.specs.Numbers.{taken}
-use Rattle.keys.specs.Keys.{goodPair, takesForm}
+use Rattle.keys.specs.Keys.{takesForm}
 use Rattle.keys.specs.declared.Form.{Form}
 use Rattle.keys.specs.declared.Form.the-variants.{Plain, Physical, Functional, Foreign}
 use Rattle.frame.specs.Layout.{formNumbered, numberOf, headSize, total, checksumOf, bodyOf, frameOf, carried}
@@ -20,11 +20,8 @@ use Rattle.frame.specs.Read.{laidOf, judged, readOf, dataOf}
 use Rattle.frame.specs.declared.Place.{Place}
 use Rattle.frame.specs.declared.Plan.{Plan}
 use Rattle.frame.specs.declared.Built.{Built}
-use Rattle.frame.specs.declared.Laid.{Laid}
-use Rattle.frame.specs.declared.Reading.{Reading}
-use Rattle.frame.proofs.Lists.{over-front}
 use Rattle.frame.proofs.Sizes.{head-le, body-length, frame-length}
-use Rattle.frame.proofs.Ready.{Ready, length-byte, NoneRefuses, none-refuses}
+use Rattle.frame.proofs.Ready.{Ready, length-byte, none-refuses}
 use Rattle.frame.proofs.Starts.{Starts, frame-starts, starts-laid}
 
 -- What it means that `frame` reads back as this form, these addresses and this data. The first is said of the frame and anything behind it.

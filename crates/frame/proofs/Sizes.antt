@@ -1,14 +1,13 @@
 -- How many bytes the parts of a frame are. Assumes nothing.
 use mathlib.Core.Path.{_≡_, refl, ap, _∙_}
-use mathlib.Core.List.{List, [], _∷_, _++_}
+use mathlib.Core.List.{List, [], _∷_}
 use Prim.Native.Nat.{ℕ, _+_, _≤_}
-use native.Mathlib.Nat.{add-assoc}
 use native.Mathlib.Omega.{arith}
 use lib.ListN.{length, length-append}
 use lib.Dec.{lit≤}
 use Rattle.keys.specs.declared.Form.{Form}
 use Rattle.keys.specs.declared.Form.the-variants.{Plain, Physical, Functional, Foreign}
-use Rattle.frame.specs.Layout.{addressesOf, extraOf, addressCount, extraCount, headSize, headOf, bodyOf, frameOf, topBits, lowBits, checksumOf}
+use Rattle.frame.specs.Layout.{addressesOf, extraOf, addressCount, extraCount, headSize, headOf, bodyOf, frameOf, topBits, lowBits}
 use Rattle.frame.specs.declared.Place.{Place}
 use Rattle.frame.specs.declared.Place.the-variants.{Format, Extra, Nowhere}
 

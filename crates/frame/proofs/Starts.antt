@@ -1,23 +1,21 @@
 -- What reading sees at the front of any bytes that start with a frame: the frame's own form, place, length, addresses and data, whatever
 -- stands behind it. So a frame's end is fixed by its front. Assumes nothing.
-use mathlib.Core.Path.{_≡_, refl, sym, ap, _∙_}
-use mathlib.Core.Bool.{Bool, true, false}
+use mathlib.Core.Path.{_≡_, refl, ap, _∙_}
+use mathlib.Core.Bool.{true}
 use mathlib.Core.List.{List, [], _∷_, _++_, append-assoc}
-use Prim.Native.Nat.{ℕ, _+_, _%_, _≤_, _<_}
+use Prim.Native.Nat.{ℕ, _+_, _%_, _≤_}
 use native.Mathlib.Omega.{arith}
-use borrow.Author.Tests.{eq-eqb, ne-eqb, lt-ltb, le-ltb}
-use lib.Dec.{eqb, ltb}
+use borrow.Author.Tests.{ne-eqb, lt-ltb, le-ltb}
 use lib.ListN.{length, getD, take, drop}
 use lib.Seq.{take-append-seam, drop-at}
 use Rattle.base.specs.Numbers.{taken}
-use Rattle.keys.specs.Keys.{takesForm, lengthInFormat, extraLength}
+use Rattle.keys.specs.Keys.{takesForm}
 use Rattle.keys.specs.declared.Form.{Form}
 use Rattle.keys.specs.declared.Form.the-variants.{Plain, Physical, Functional, Foreign}
 use Rattle.frame.specs.Layout.{topBits, formatForm, lowBits, addressesOf, extraOf, addressCount, headSize, headOf, checksumOf, bodyOf, frameOf, carried}
 use Rattle.frame.specs.Read.{placeRead, lengthRead, laidOf}
 use Rattle.frame.specs.declared.Place.{Place}
 use Rattle.frame.specs.declared.Place.the-variants.{Format, Extra, Nowhere}
-use Rattle.frame.specs.declared.Laid.{Laid}
 use Rattle.frame.proofs.Sizes.{head-length}
 use Rattle.frame.proofs.Ready.{Placed, length-some, somewhere}
 

@@ -1,4 +1,4 @@
--- A frame's layout, which building and reading share (document 01, "Frames"; 000, clauses 4.1 to 4.4, figures 4 and 5).
+-- A frame's layout, which building and reading share (document 01, "Frames"; ISO 14230-2, clauses 4.1 to 4.4, figures 4 and 5).
 -- A departure from ISO 14230-2:1999: its clause 4.2 says once that a header has at most 3 bytes; figure 4 and the French text say 4, and 4 decides.
 -- Assumes nothing.
 use Prim.Native.Nat.{ℕ, _+_, _%_}

@@ -1,7 +1,7 @@
 -- Reading a slice that must be exactly one frame (document 01, "Frames"). Assumes nothing.
 use mathlib.Core.Path.{_≡_}
 use Prim.Native.Nat.{ℕ, _+_, _%_}
-use mathlib.Core.Bool.{Bool, not}
+use mathlib.Core.Bool.{not}
 use mathlib.Core.List.{List}
 use lib.ListN.{length, getD, take, drop}
 use lib.Dec.{eqb}
@@ -9,7 +9,6 @@ use denote.Ref.{RefT, now}
 use Rattle.base.specs.Choice.{if_then_else_}
 use Rattle.base.specs.Numbers.{taken, badKeys, badForm, badLength, badChecksum}
 use Rattle.keys.specs.Keys.{goodPair, takesForm, lengthInFormat, extraLength}
-use Rattle.keys.specs.declared.Form.{Form}
 use Rattle.keys.specs.declared.Form.the-variants.{Plain}
 use Rattle.frame.specs.Layout.{formatForm, numberOf, addressCount, headSize, checksumOf, carried, isNowhere}
 use Rattle.frame.specs.declared.Place.{Place}

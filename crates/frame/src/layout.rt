@@ -1,6 +1,7 @@
 // A frame's layout, which building and reading share: forms, places, sizes, the checksum.
 ghost use mathlib.Core.Path.{_≡_};
-ghost use Rattle.frame.specs.Layout.{formNumbered, numberOf, topBits, formatForm, lowBits, addressCount, extraCount, headSize, checksumOf, carried, isNowhere};
+ghost use Rattle.frame.specs.Layout.{formNumbered, numberOf, topBits, formatForm, lowBits};
+ghost use Rattle.frame.specs.Layout.{addressCount, extraCount, headSize, checksumOf, carried, isNowhere};
 use crate::Place;
 use keys::Form;
 

@@ -1,4 +1,4 @@
--- Key bytes: what KB1 announces, which forms it takes, and which pairs are good (document 01, "Key bytes"; 000, clause 5.2.4.1).
+-- Key bytes: what KB1 announces, which forms it takes, and which pairs are good (document 01, "Key bytes"; ISO 14230-2, clause 5.2.4.1).
 -- Assumes nothing.
 use Prim.Native.Nat.{ℕ, _+_, _/_, _%_}
 use mathlib.Core.Bool.{Bool, false, _&&_, _||_, not}

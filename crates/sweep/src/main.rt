@@ -6,7 +6,6 @@ mod pairs;
 mod times;
 
 use libc::STDOUT_FILENO;
-use timing::Codes;
 
 // What a run of cases came to: how many were taken and came back as they were, and a digest of all
 // answers.
@@ -21,40 +20,13 @@ fn case(kind: u8, t: Tally, i: u32) -> Tally {
     let low = (i % 256) as u8;
     let high = (i / 256 % 256) as u8;
     if kind == 0 {
-        return times::codes_case(
-            t,
-            Codes {
-                p2min: 0,
-                p2max: low,
-                p3min: 0x0B,
-                p3max: 0x14,
-                p4min: 0x0A,
-            },
-        );
+        return times::codes_case(t, times::codes(0, low, 0x0B, 0x14, 0x0A));
     }
     if kind == 1 {
-        return times::codes_case(
-            t,
-            Codes {
-                p2min: 0x32,
-                p2max: 0x02,
-                p3min: 0x6E,
-                p3max: low,
-                p4min: 0x0A,
-            },
-        );
+        return times::codes_case(t, times::codes(0x32, 0x02, 0x6E, low, 0x0A));
     }
     if kind == 2 {
-        return times::codes_case(
-            t,
-            Codes {
-                p2min: 0,
-                p2max: 1,
-                p3min: low,
-                p3max: 0xFF,
-                p4min: high,
-            },
-        );
+        return times::codes_case(t, times::codes(0, 1, low, 0xFF, high));
     }
     if kind == 3 {
         return times::codes_case(t, times::made_codes(marks::mix(3, i)));

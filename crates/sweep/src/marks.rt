@@ -14,6 +14,7 @@ pub(crate) fn mix_wide(d: u32, x: u64) -> u32 {
     mix(mix(d, high), low)
 }
 
+// A byte as a number of 32 bits.
 pub(crate) fn wide(x: u8) -> u32 {
     x as u32
 }

@@ -75,6 +75,17 @@ pub(crate) fn codes_case(t: Tally, c: Codes) -> Tally {
     marks::tally(t, digest, true, back)
 }
 
+// Five codes.
+pub(crate) fn codes(p2min: u8, p2max: u8, p3min: u8, p3max: u8, p4min: u8) -> Codes {
+    Codes {
+        p2min: p2min,
+        p2max: p2max,
+        p3min: p3min,
+        p3max: p3max,
+        p4min: p4min,
+    }
+}
+
 // Five codes made up of a seed, many of them near those that are allowed.
 pub(crate) fn made_codes(seed: u32) -> Codes {
     let a = marks::next(seed);
@@ -82,13 +93,13 @@ pub(crate) fn made_codes(seed: u32) -> Codes {
     let c = marks::next(b);
     let d = marks::next(c);
     let e = marks::next(d);
-    Codes {
-        p2min: (a / 65536 % 256) as u8,
-        p2max: (b / 65536 % 256) as u8,
-        p3min: (c / 65536 % 256) as u8,
-        p3max: (d / 65536 % 256) as u8,
-        p4min: (e / 65536 % 64) as u8,
-    }
+    codes(
+        (a / 65536 % 256) as u8,
+        (b / 65536 % 256) as u8,
+        (c / 65536 % 256) as u8,
+        (d / 65536 % 256) as u8,
+        (e / 65536 % 64) as u8,
+    )
 }
 
 // A made-up number of steps below most.

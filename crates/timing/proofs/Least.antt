@@ -8,11 +8,11 @@ use native.Mathlib.Omega.{arith}
 use borrow.Author.Tests.{eqb-true, leb-true, ltb-true}
 use lib.Dec.{eqb, leb, lit≤}
 use Rattle.base.specs.Numbers.{taken}
-use Rattle.base.proofs.Tests.{and-split, or-split, at-each, by-test}
+use Rattle.base.proofs.Tests.{and-split, or-split, upTo, at-each, by-test}
 use Rattle.keys.specs.Keys.{isExtended}
 use Rattle.units.specs.Units.{isEarlier}
 use Rattle.units.specs.declared.Micros.{Micros}
-use Rattle.timing.specs.Windows.{isUnlimited, isBelow, normalSet, extendedSet, setOf, p4max, isAllowed}
+use Rattle.timing.specs.Windows.{isUnlimited, isBelow, setOf, p4max, isAllowed}
 use Rattle.timing.specs.Codes.{p2Half, p2MaxOf, p3MaxOf, windowsBy, decodedOf}
 use Rattle.timing.specs.declared.Limit.{Limit}
 use Rattle.timing.specs.declared.Windows.{Windows}
@@ -38,24 +38,24 @@ some m l h z =
     ⊎-elim (λ u. let e = eqb-true (l .0 .0) 18_446_744_073_709_551_615 u in omega arith)
     (λ b. let e = ltb-true (m .0) (l .0 .0) b in omega arith) (or-split (isUnlimited l) (isEarlier m (l .0)) h)
 
--- each code of a maximum gives 0 or a long window: a test over the 256 codes
-long2 : ℕ → Bool
-long2 k = eqb (p2MaxOf k .0 .0) 0 || leb 25_000 (p2MaxOf k .0 .0)
+-- a code gives a maximum of 0 or of at least so much: a test over the 256 codes, for both maxima
+long : (ℕ → Limit) → ℕ → ℕ → Bool
+long maxOf least k = eqb (maxOf k .0 .0) 0 || leb least (maxOf k .0 .0)
 
-long3 : ℕ → Bool
-long3 k = eqb (p3MaxOf k .0 .0) 0 || leb 250_000 (p3MaxOf k .0 .0)
+long-enough : (maxOf : ℕ → Limit) (least : ℕ) → upTo (long maxOf least) 256 ≡ true → (k : ℕ) (m : Micros) → k < 256 → isBelow m (maxOf k) ≡ true
+    → least ≤ maxOf k .0 .0
+unfolding long
+long-enough maxOf least t k m h b =
+    ⊎-elim (λ z. absurd (some m (maxOf k) b (eqb-true (maxOf k .0 .0) 0 z))) (λ l. leb-true least (maxOf k .0 .0) l)
+    (or-split (eqb (maxOf k .0 .0) 0) (leb least (maxOf k .0 .0)) (at-each (long maxOf least) 256 t k h))
 
 p2-long : (k : ℕ) (m : Micros) → k < 256 → isBelow m (p2MaxOf k) ≡ true → 25_000 ≤ p2MaxOf k .0 .0
-unfolding long2 p2MaxOf p2Half
-p2-long k m h b =
-    ⊎-elim (λ z. absurd (some m (p2MaxOf k) b (eqb-true (p2MaxOf k .0 .0) 0 z))) (λ l. leb-true 25_000 (p2MaxOf k .0 .0) l)
-    (or-split (eqb (p2MaxOf k .0 .0) 0) (leb 25_000 (p2MaxOf k .0 .0)) (at-each long2 256 refl k h))
+unfolding long p2MaxOf p2Half
+p2-long = long-enough p2MaxOf 25_000 refl
 
 p3-long : (k : ℕ) (m : Micros) → k < 256 → isBelow m (p3MaxOf k) ≡ true → 250_000 ≤ p3MaxOf k .0 .0
-unfolding long3 p3MaxOf
-p3-long k m h b =
-    ⊎-elim (λ z. absurd (some m (p3MaxOf k) b (eqb-true (p3MaxOf k .0 .0) 0 z))) (λ l. leb-true 250_000 (p3MaxOf k .0 .0) l)
-    (or-split (eqb (p3MaxOf k .0 .0) 0) (leb 250_000 (p3MaxOf k .0 .0)) (at-each long3 256 refl k h))
+unfolding long p3MaxOf
+p3-long = long-enough p3MaxOf 250_000 refl
 
 -- EVERY ALLOWED P2 MAX IS AT LEAST 25 MS, AND P3 MAX AT LEAST 250 MS
 pub codes-long : (c : Codes) → Bytes c → decodedOf c .no ≡ taken → LongEnough (decodedOf c .windows)

@@ -2,10 +2,9 @@
 -- Assumes nothing.
 use mathlib.Core.Path.{_≡_, refl}
 use mathlib.Core.Bool.{Bool, true, false, _&&_, not}
-use Prim.Native.Nat.{ℕ, _≤_}
+use Prim.Native.Nat.{_≤_}
 use native.Mathlib.Omega.{arith}
 use borrow.Author.Tests.{eqb-true, le-ltb}
-use lib.Dec.{eqb}
 use Rattle.units.specs.Units.{isEarlier}
 use Rattle.units.specs.declared.Micros.{Micros}
 use Rattle.timing.specs.Windows.{isUnlimited, isPassed}

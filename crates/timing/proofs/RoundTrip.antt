@@ -1,21 +1,20 @@
 -- Codes become windows and windows codes, and each way back gives what was there: the promises of `windows_of` and `codes_of` undo each other
 -- wherever one of them is not 10. Assumes nothing.
 use mathlib.Core.Path.{_≡_, refl, ap}
-use mathlib.Core.Bool.{Bool, true, false, _&&_}
+use mathlib.Core.Bool.{Bool, true, _&&_}
 use mathlib.Core.Logic.{_↔_}
-use Prim.Native.Nat.{ℕ, _+_, _/_, _≤_, _<_}
+use Prim.Native.Nat.{ℕ, _/_, _≤_, _<_}
 use native.Mathlib.Omega.{arith}
 use borrow.Author.Tests.{eqb-true, le-leb, leb-true, eq-eqb}
 use lib.Dec.{eqb, leb}
-use Rattle.base.specs.Choice.{if_then_else_}
 use Rattle.base.specs.Numbers.{taken}
-use Rattle.base.proofs.Tests.{and-split, at-each, by-test}
-use Rattle.units.specs.Units.{wholeSteps, halfOf, steps25Of, steps250Of, isSame}
+use Rattle.base.proofs.Tests.{and-split, taken-by, upTo, at-each, by-test}
+use Rattle.units.specs.Units.{byteOf, wholeSteps, halfOf, steps25Of, steps250Of, isSame}
 use Rattle.units.specs.declared.Step25.{Step25}
 use Rattle.units.proofs.Steps.{steps-back}
 use Rattle.timing.specs.Windows.{isUnlimited, isAllowed}
 use Rattle.timing.specs.Codes.{minOf, p2Half, p2MaxOf, p3MaxOf, windowsBy, notDecoded, decodedOf}
-use Rattle.timing.specs.Codes.{byteOf, minCode, p2StepsCode, p2Code, p3Code, codesBy, sameWindows, notEncoded, encodedOf}
+use Rattle.timing.specs.Codes.{minCode, p2StepsCode, p2Code, p3Code, codesBy, sameWindows, notEncoded, encodedOf}
 use Rattle.timing.specs.declared.Limit.{Limit}
 use Rattle.timing.specs.declared.Windows.{Windows}
 use Rattle.timing.specs.declared.Codes.{Codes}
@@ -33,11 +32,8 @@ pub record Bytes (c : Codes) : Type 0 where
 -- what is taken was allowed
 pub decoded-allowed : (c : Codes) → decodedOf c .no ≡ taken → isAllowed (windowsBy c) ≡ true
 unfolding decodedOf
-decoded-allowed c e = picked (isAllowed (windowsBy c)) e
-  where
-    picked : (b : Bool) → (if b then record { no = taken; windows = windowsBy c } else notDecoded) .no ≡ taken → b ≡ true
-    picked true e = refl
-    picked false e = absurd (omega arith)
+decoded-allowed c e =
+    taken-by (λ (d : Decoded). d .no) (isAllowed (windowsBy c)) (record { no = taken; windows = windowsBy c }) notDecoded (λ z. omega arith) e
 
 pub decoded-is : (c : Codes) → isAllowed (windowsBy c) ≡ true → decodedOf c ≡ record { no = taken; windows = windowsBy c }
 unfolding decodedOf
@@ -45,11 +41,8 @@ decoded-is c a = rw a
 
 pub encoded-test : (w : Windows) → encodedOf w .no ≡ taken → (isAllowed w && sameWindows (windowsBy (codesBy w)) w) ≡ true
 unfolding encodedOf
-encoded-test w e = picked (isAllowed w && sameWindows (windowsBy (codesBy w)) w) e
-  where
-    picked : (b : Bool) → (if b then record { no = taken; codes = codesBy w } else notEncoded) .no ≡ taken → b ≡ true
-    picked true e = refl
-    picked false e = absurd (omega arith)
+encoded-test w e =
+    taken-by (λ (d : Encoded). d .no) (isAllowed w && sameWindows (windowsBy (codesBy w)) w) (record { no = taken; codes = codesBy w }) notEncoded (λ z. omega arith) e
 
 -- windows that are the same are equal
 same-equal : (a b : Windows) → sameWindows a b ≡ true → a ≡ b
@@ -90,20 +83,21 @@ min-forth : (k : ℕ) → k ≤ 255 → minCode (minOf k) ≡ k
 unfolding minCode minOf byteOf
 min-forth k h = rw (steps-back 500 k (omega arith) (omega arith), le-leb k 255 h)
 
--- each code of a maximum is the code of its limit: a test over the 256 codes
-same2 : ℕ → Bool
-same2 k = eqb (p2Code (p2MaxOf k)) k
+-- each code of a maximum is the code of its limit: a test over the 256 codes, for both maxima
+comes : (Limit → ℕ) → (ℕ → Limit) → ℕ → Bool
+comes codeOf maxOf k = eqb (codeOf (maxOf k)) k
+
+max-forth : (codeOf : Limit → ℕ) (maxOf : ℕ → Limit) → upTo (comes codeOf maxOf) 256 ≡ true → (k : ℕ) → k < 256 → codeOf (maxOf k) ≡ k
+unfolding comes
+max-forth codeOf maxOf t k h = eqb-true (codeOf (maxOf k)) k (at-each (comes codeOf maxOf) 256 t k h)
 
 p2-forth : (k : ℕ) → k < 256 → p2Code (p2MaxOf k) ≡ k
-unfolding same2 p2Code p2MaxOf p2Half p2StepsCode isUnlimited byteOf wholeSteps
-p2-forth k h = eqb-true (p2Code (p2MaxOf k)) k (at-each same2 256 refl k h)
-
-same3 : ℕ → Bool
-same3 k = eqb (p3Code (p3MaxOf k)) k
+unfolding comes p2Code p2MaxOf p2Half p2StepsCode isUnlimited wholeSteps
+p2-forth = max-forth p2Code p2MaxOf refl
 
 p3-forth : (k : ℕ) → k < 256 → p3Code (p3MaxOf k) ≡ k
-unfolding same3 p3Code p3MaxOf isUnlimited byteOf wholeSteps
-p3-forth k h = eqb-true (p3Code (p3MaxOf k)) k (at-each same3 256 refl k h)
+unfolding comes p3Code p3MaxOf isUnlimited byteOf wholeSteps
+p3-forth = max-forth p3Code p3MaxOf refl
 
 codes-forth : (c : Codes) → Bytes c → codesBy (windowsBy c) ≡ c
 unfolding codesBy windowsBy
@@ -133,7 +127,9 @@ byte-small n = by-test (λ (k : ℕ). k ≤ 255) (leb n 255) (λ e. leb-true n 2
 
 steps-small : (s : Step25) → p2StepsCode s ≤ 255
 unfolding p2StepsCode
-steps-small s = by-test (λ (k : ℕ). k ≤ 255) (leb (s .0) 0xF0) (λ e. let h = leb-true (s .0) 0xF0 e in omega arith) (λ e. byte-small (0xF0 + s .0 / 256))
+steps-small s =
+    by-test (λ (k : ℕ). k ≤ 255) (leb (s .0) 0xF0) (λ e. let h = leb-true (s .0) 0xF0 e in omega arith)
+    (λ _. by-test (λ (k : ℕ). k ≤ 255) (leb (s .0 / 256) 15) (λ e. let h = leb-true (s .0 / 256) 15 e in omega arith) (λ _. omega arith))
 
 p2-small : (l : Limit) → p2Code l ≤ 255
 unfolding p2Code

@@ -1,10 +1,9 @@
 -- The codes of the normal and of the extended set, both ways. Assumes nothing.
 use mathlib.Core.Path.{_≡_, refl}
-use Prim.Native.Nat.{ℕ}
 use Rattle.base.specs.Numbers.{taken}
-use Rattle.units.specs.Units.{wholeSteps}
+use Rattle.units.specs.Units.{byteOf, wholeSteps}
 use Rattle.timing.specs.Windows.{isUnlimited, isBelow, normalSet, extendedSet, isAllowed}
-use Rattle.timing.specs.Codes.{minOf, p2Half, p2MaxOf, p3MaxOf, windowsBy, decodedOf, byteOf, minCode, p2StepsCode, p2Code, p3Code, codesBy, sameWindows, encodedOf}
+use Rattle.timing.specs.Codes.{minOf, p2Half, p2MaxOf, p3MaxOf, windowsBy, decodedOf, minCode, p2StepsCode, p2Code, p3Code, codesBy, sameWindows, encodedOf}
 use Rattle.timing.specs.declared.Windows.{Windows}
 use Rattle.timing.specs.declared.Codes.{Codes}
 

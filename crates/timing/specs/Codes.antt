@@ -1,4 +1,4 @@
--- Timing codes: codes become windows and windows codes (document 01, "Timing"; 000, table 5).
+-- Timing codes: codes become windows and windows codes (document 01, "Timing"; ISO 14230-2, table 5).
 -- A departure from ISO 14230-2:1999: its table 5 prints 83 600 ms for FE. By its own rule, and document 01's, FE is 14 times 6,400 ms, 89,600.
 -- Assumes nothing.
 use Prim.Native.Nat.{ℕ, _+_, _*_, _/_, _%_}
@@ -6,7 +6,7 @@ use mathlib.Core.Bool.{Bool, _&&_}
 use lib.Dec.{eqb, leb}
 use Rattle.base.specs.Choice.{if_then_else_}
 use Rattle.base.specs.Numbers.{taken, badTiming}
-use Rattle.units.specs.Units.{micros, halfMs, step250, microsOfHalf, microsOf250, halfOf, steps25Of, steps250Of, isSame}
+use Rattle.units.specs.Units.{micros, halfMs, halfBy, step250By, byteOf, microsOfHalf, microsOf250, halfOf, steps25Of, steps250Of, isSame}
 use Rattle.units.specs.declared.Micros.{Micros}
 use Rattle.units.specs.declared.HalfMs.{HalfMs}
 use Rattle.units.specs.declared.Step25.{Step25}
@@ -19,7 +19,7 @@ use Rattle.timing.specs.declared.Encoded.{Encoded}
 
 -- "Minima count 0.5 ms."
 unfoldable pub minOf : ℕ → Micros
-minOf code = microsOfHalf (halfMs code)
+minOf code = microsOfHalf (halfBy code)
 
 -- "P2 max: 01 to F0 count 25 ms, F1 to FE give 6,400 ms times the low four bits, FF no limit, 00 not allowed": in half milliseconds, 0 for
 -- the two codes that give no number. 00 is then a maximum of 0, and no minimum is below it.
@@ -31,7 +31,7 @@ p2MaxOf code = if eqb code 0xFF then noLimit else untilTime (microsOfHalf (p2Hal
 
 -- "P3 max counts 250 ms, FF is no limit."
 unfoldable pub p3MaxOf : ℕ → Limit
-p3MaxOf code = if eqb code 0xFF then noLimit else untilTime (microsOf250 (step250 code))
+p3MaxOf code = if eqb code 0xFF then noLimit else untilTime (microsOf250 (step250By code))
 
 -- "Five code bytes: P2 min, P2 max, P3 min, P3 max, P4 min."
 unfoldable pub windowsBy : Codes → Windows
@@ -60,15 +60,12 @@ unfoldable pub decodedOf : Codes → Decoded
 decodedOf c = if isAllowed (windowsBy c) then record { no = taken; windows = windowsBy c } else notDecoded
 
 -- The one code that can give a time: its whole steps, as far as a byte goes. Whether it does give it is asked by `sameWindows`.
-unfoldable pub byteOf : ℕ → ℕ
-byteOf n = if leb n 255 then n else 255
-
 unfoldable pub minCode : Micros → ℕ
 minCode m = byteOf (halfOf m .0)
 
 -- 6,400 ms are 256 steps of 25 ms
 unfoldable pub p2StepsCode : Step25 → ℕ
-p2StepsCode s = if leb (s .0) 0xF0 then s .0 else byteOf (0xF0 + s .0 / 256)
+p2StepsCode s = if leb (s .0) 0xF0 then s .0 else if leb (s .0 / 256) 15 then 0xF0 + s .0 / 256 else 0xFF
 
 unfoldable pub p2Code : Limit → ℕ
 p2Code l = if isUnlimited l then 0xFF else p2StepsCode (steps25Of (l .0))

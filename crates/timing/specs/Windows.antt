@@ -1,10 +1,10 @@
--- Timing windows, the two sets that KB1 names, and which windows are allowed (document 01, "Timing"; 000, clause 4.5.1).
--- Departures from ISO 14230-2:1999. The normal set is its table 3. Its table 4 repeats table 3 where the extended set should stand; the
--- extended set here is document 01's own and decides. Clause 4.5.2 (a reply 7F xx 78 stretches P2 max) is no rule of document 01 and none here.
+-- Timing windows, the two sets that KB1 names, and which windows are allowed (document 01, "Timing"; ISO 14230-2, clause 4.5.1).
+-- Departures from ISO 14230-2:1999. The normal set is its table 3; the extended set is document 01's own profile and decides over its table 4.
+-- Clause 4.5.2 (a reply 7F xx 78 stretches P2 max) is no rule of document 01, and none here.
 -- Assumes nothing.
 use Prim.Native.Nat.{ℕ}
 use mathlib.Core.Bool.{Bool, _&&_, _||_, not}
-use lib.Dec.{eqb, ltb}
+use lib.Dec.{eqb}
 use Rattle.base.specs.Choice.{if_then_else_}
 use Rattle.keys.specs.Keys.{isExtended}
 use Rattle.units.specs.Units.{micros, isEarlier}
@@ -31,9 +31,9 @@ isPassed l gap = not (isUnlimited l) && isEarlier (l .0) gap
 unfoldable pub isBelow : Micros → Limit → Bool
 isBelow m l = isUnlimited l || isEarlier m (l .0)
 
--- | ms                    | P1      | P2         | P3           | P4      |
--- | normal (000, table 3) | 0 to 20 | 25 to 50   | 55 to 5,000  | 5 to 20 |
--- | extended (ours)       | 0 to 20 | 0 to 1,000 | 5.5 to 5,000 | 5 to 20 |
+-- | ms                            | P1      | P2         | P3           | P4      |
+-- | normal (ISO 14230-2, table 3) | 0 to 20 | 25 to 50   | 55 to 5,000  | 5 to 20 |
+-- | extended (document 01's own)  | 0 to 20 | 0 to 1,000 | 5.5 to 5,000 | 5 to 20 |
 -- No code changes P1 or P4 max, so a set is the other five.
 abbrev pub normalSet : Windows
 normalSet = record {

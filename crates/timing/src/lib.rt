@@ -2,14 +2,12 @@
 ghost use mathlib.Core.Path.{_≡_};
 ghost use Rattle.timing.specs.Windows.{untilTime, noLimit, isUnlimited, isPassed, isBelow, normalSet, extendedSet, setOf, isAllowed};
 ghost use Rattle.timing.specs.Codes.{minOf, p2MaxOf, p3MaxOf, windowsBy, notDecoded, decodedOf};
-ghost use Rattle.timing.specs.Codes.{byteOf, minCode, p2StepsCode, p2Code, p3Code, codesBy, sameWindows, notEncoded, encodedOf};
+ghost use Rattle.timing.specs.Codes.{minCode, p2StepsCode, p2Code, p3Code, codesBy, sameWindows, notEncoded, encodedOf};
 
 mod p2max;
 
-use units::HalfMs;
 use units::Micros;
 use units::Step25;
-use units::Step250;
 
 // The end of a window: a time, or no limit. Its number is nobody else's business: it is made by
 // `until` and `no_limit`, and asked by `passed`.
@@ -121,7 +119,7 @@ pub fn set_of(kb1: u8) -> Windows
 fn min_of(code: u8) -> Micros
     ensures { λ r. ⌜ r ≡ minOf code ⌝ }
 {
-    units::micros_of_half(HalfMs(code as u32))
+    units::micros_of_half(units::half_by(code))
 }
 
 fn p2_max_of(code: u8) -> Limit
@@ -139,7 +137,7 @@ fn p3_max_of(code: u8) -> Limit
     if code == 0xFF {
         return no_limit();
     }
-    until(units::micros_of_250(Step250(code as u32)))
+    until(units::micros_of_250(units::step_250_by(code)))
 }
 
 // The windows that codes stand for, allowed or not.
@@ -194,20 +192,10 @@ fn not_decoded() -> Decoded
     }
 }
 
-// A count as a byte, or the greatest byte.
-fn byte_of(n: u32) -> u8
-    ensures { λ r. ⌜ r ≡ byteOf n ⌝ }
-{
-    if n <= 255 {
-        return n as u8;
-    }
-    255
-}
-
 fn min_code(m: Micros) -> u8
     ensures { λ r. ⌜ r ≡ minCode m ⌝ }
 {
-    byte_of(units::half_of(m).0)
+    units::code_of_half(units::half_of(m))
 }
 
 fn p2_steps_code(s: Step25) -> u8
@@ -217,7 +205,10 @@ fn p2_steps_code(s: Step25) -> u8
     if n <= 0xF0 {
         return n as u8;
     }
-    byte_of(0xF0 + n / 256)
+    if n / 256 <= 15 {
+        return (0xF0 + n / 256) as u8;
+    }
+    0xFF
 }
 
 fn p2_code(l: Limit) -> u8
@@ -235,7 +226,7 @@ fn p3_code(l: Limit) -> u8
     if is_unlimited(l) {
         return 0xFF;
     }
-    byte_of(units::steps_250_of(l.0).0)
+    units::code_of_250(units::steps_250_of(l.0))
 }
 
 // The only codes that can give these windows.

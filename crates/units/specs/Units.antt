@@ -1,4 +1,4 @@
--- Microseconds, and the steps of 0.5, 25 and 250 ms that timing codes count in (document 01, "Timing"; the resolutions of 000, tables 3 and 5).
+-- Microseconds, and the steps of 0.5, 25 and 250 ms that timing codes count in (document 01, "Timing"; the resolutions of ISO 14230-2, tables 3 and 5).
 -- "Code steps and microseconds stay apart until this rule converts one into the other": this file is that rule, and the only one.
 -- Assumes nothing.
 use Prim.Native.Nat.{ℕ, _*_, _/_}
@@ -22,6 +22,16 @@ step25 n = record { 0 = n }
 
 abbrev pub step250 : ℕ → Step250
 step250 n = record { 0 = n }
+
+-- a code byte counts steps, and so many steps are counted by one code byte: by the greatest where no byte counts so many
+abbrev pub halfBy : ℕ → HalfMs
+halfBy code = halfMs code
+
+abbrev pub step250By : ℕ → Step250
+step250By code = step250 code
+
+unfoldable pub byteOf : ℕ → ℕ
+byteOf n = if leb n 255 then n else 255
 
 -- steps become microseconds
 abbrev pub microsOfHalf : HalfMs → Micros

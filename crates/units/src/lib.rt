@@ -2,7 +2,8 @@
 // whoever else holds a time or a number of steps holds it in its own type.
 ghost use mathlib.Core.Path.{_≡_};
 ghost use Prim.Native.Nat.{_<_};
-ghost use Rattle.units.specs.Units.{microsOfHalf, microsOf25, microsOf250, wholeSteps, halfOf, steps25Of, steps250Of, isEarlier, isSame};
+ghost use Rattle.units.specs.Units.{halfBy, step250By, byteOf, microsOfHalf, microsOf25, microsOf250};
+ghost use Rattle.units.specs.Units.{wholeSteps, halfOf, steps25Of, steps250Of, isEarlier, isSame};
 
 // A time, or a length of time, in microseconds.
 pub struct Micros(pub u64);
@@ -25,6 +26,44 @@ const STEP_250: u64 = 250_000;
 
 // The most steps that a number of steps holds.
 const MOST: u64 = 4_294_967_295;
+
+// As many steps of 0.5 ms as a code byte counts.
+pub fn half_by(code: u8) -> HalfMs
+    ensures { λ r. ⌜ r ≡ halfBy code ⌝ }
+{
+    HalfMs(code as u32)
+}
+
+// As many steps of 250 ms as a code byte counts.
+pub fn step_250_by(code: u8) -> Step250
+    ensures { λ r. ⌜ r ≡ step250By code ⌝ }
+{
+    Step250(code as u32)
+}
+
+// A number of steps as a code byte, or the greatest byte.
+fn byte_of(n: u32) -> u8
+    ensures { λ r. ⌜ r ≡ byteOf n ⌝ }
+{
+    if n <= 255 {
+        return n as u8;
+    }
+    255
+}
+
+// The code byte that counts so many steps of 0.5 ms, or the greatest.
+pub fn code_of_half(h: HalfMs) -> u8
+    ensures { λ r. ⌜ r ≡ byteOf (h .0) ⌝ }
+{
+    byte_of(h.0)
+}
+
+// The code byte that counts so many steps of 250 ms, or the greatest.
+pub fn code_of_250(s: Step250) -> u8
+    ensures { λ r. ⌜ r ≡ byteOf (s .0) ⌝ }
+{
+    byte_of(s.0)
+}
 
 // Steps of 0.5 ms as microseconds.
 pub fn micros_of_half(h: HalfMs) -> Micros

@@ -12,4 +12,4 @@ min-code-spec =
     (tie.spec
     (λ c κs. search needs)
     (λ c κs. search needs)
-    (λ c. rw (c .byte-of .ensures, c .before .half-of .ensures)))
+    (λ c. rw (c .code-of-half .ensures, c .before .half-of .ensures)))

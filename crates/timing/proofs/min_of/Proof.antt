@@ -11,4 +11,5 @@ min-of-spec =
     tie.close
     (tie.spec
     (λ c κs. search needs)
-    (λ c. rw (c .micros-of-half .ensures)))
+    (λ c κs. search needs)
+    (λ c. rw (c .micros-of-half .ensures, c .before .half-by .ensures)))

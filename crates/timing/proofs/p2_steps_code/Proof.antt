@@ -14,5 +14,6 @@ p2-steps-code-spec =
     (λ c. search needs)
     (λ c. rw (le-leb _ _ (c .if1 .taken)))
     (λ c. search needs)
-    (λ c κs. search needs)
-    (λ c. rw (c .byte-of .ensures, lt-leb _ _ (c .before .if1 .left))))
+    (λ c. search needs)
+    (λ c. rw (lt-leb _ _ (c .before .if1 .left), le-leb _ _ (c .if2 .taken)))
+    (λ c. rw (lt-leb _ _ (c .before .if1 .left), lt-leb _ _ (c .if2 .left))))

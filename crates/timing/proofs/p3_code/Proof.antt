@@ -14,4 +14,4 @@ p3-code-spec =
     (λ c. rw (← (c .before .is-unlimited .ensures), c .if1 .taken))
     (λ c κs. search needs)
     (λ c κs. search needs)
-    (λ c. rw (c .byte-of .ensures, ← (c .before .before .before .is-unlimited .ensures), c .before .before .if1 .left, c .before .steps-250-of .ensures)))
+    (λ c. rw (c .code-of-250 .ensures, ← (c .before .before .before .is-unlimited .ensures), c .before .before .if1 .left, c .before .steps-250-of .ensures)))

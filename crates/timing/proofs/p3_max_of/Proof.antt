@@ -15,4 +15,5 @@ p3-max-of-spec =
     (λ c. rw (c .no-limit .ensures, eq-eqb _ _ (c .before .if1 .taken)))
     (λ c κs. search needs)
     (λ c κs. search needs)
-    (λ c. rw (c .until .ensures, ne-eqb _ _ (c .before .before .if1 .left), c .before .micros-of-250 .ensures)))
+    (λ c κs. search needs)
+    (λ c. rw (c .until .ensures, ne-eqb _ _ (c .before .before .before .if1 .left), c .before .micros-of-250 .ensures, c .before .before .step-250-by .ensures)))

@@ -1,10 +1,9 @@
 -- `frame::builder::write` meets its contract: the head, the data and the checksum stand one behind the other (`frame-written`).
 -- Assumes nothing.
-use Prim.Native.Nat.{ℕ, _+_, _<_}
-use mathlib.Core.Path.{_≡_, refl, sym, ap, _∙_}
+use mathlib.Core.Path.{refl, sym, _∙_}
 use borrow.Author.Needs.{needs}
 use native.Mathlib.Omega.{arith}
-use lib.ListN.{length, length-set}
+use lib.ListN.{length-set}
 use lib.Seq.{length-take-le}
 use Rattle.frame.proofs.Writing.{frame-written}
 use Rattle.frame.proofs.builder.write.Statement.{statement}

@@ -1,7 +1,7 @@
 -- `frame::reader::contents` meets its contract: the part that `read` names lies within the slice (`read-within`), and is handed back.
 -- Assumes nothing.
 use Prim.Native.Nat.{ℕ, _+_, _≤_}
-use mathlib.Core.Path.{_≡_, sym, ap, _∙_, subst}
+use mathlib.Core.Path.{sym, ap, _∙_, subst}
 use borrow.Author.Needs.{needs}
 use native.Mathlib.Omega.{arith}
 use native.Mathlib.Nat.{add-comm, add-sub-cancel-left}

@@ -1,7 +1,7 @@
 -- `sweep::frames::fill` is safe and ends: the measure is what is left of the slice, which keeps its length.
 -- Assumes nothing.
 use Prim.Native.Nat.{_≤_, _-_}
-use mathlib.Core.Path.{_≡_, _∙_}
+use mathlib.Core.Path.{_≡_}
 use borrow.Author.Needs.{needs}
 use lib.ListN.{length, length-set}
 use Rattle.sweep.proofs.frames.fill.Statement.{statement}

@@ -3,7 +3,6 @@
 use mathlib.Core.Path.{ap}
 use borrow.Author.Needs.{needs}
 use Rattle.units.specs.Units.{halfMs}
-use Rattle.timing.specs.Codes.{p2Half}
 use Rattle.timing.proofs.P2Table.{table, rule}
 use Rattle.timing.proofs.p2max.p2_half.Statement.{statement}
 use Rattle.timing.proofs.p2max.p2_half.Tie as tie

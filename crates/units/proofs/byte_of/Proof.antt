@@ -1,10 +1,10 @@
--- `timing::byte_of` meets its contract: at each return, the tests and matches on the way there pick the case of the definition.
+-- `units::byte_of` meets its contract: at each return, the tests and matches on the way there pick the case of the definition.
 -- Assumes nothing.
 use borrow.Author.Needs.{needs}
 use borrow.Author.Tests.{le-leb, lt-leb}
-use Rattle.timing.specs.Codes.{byteOf}
-use Rattle.timing.proofs.byte_of.Statement.{statement}
-use Rattle.timing.proofs.byte_of.Tie as tie
+use Rattle.units.specs.Units.{byteOf}
+use Rattle.units.proofs.byte_of.Statement.{statement}
+use Rattle.units.proofs.byte_of.Tie as tie
 
 pub byte-of-spec : {M : Type 1} → statement M
 unfolding byteOf
