@@ -128,12 +128,12 @@ fn damage(seed: u32, n: usize, out: &mut [u8]) {
 // Reads the front of the buffer, and mixes all that comes of it.
 fn read_case(t: Tally, kb1: u8, kb2: u8, s: &[u8]) -> Tally {
     let r = frame::read(kb1, kb2, s);
-    let a = marks::mix(t.digest, r.no as u32);
-    let b = marks::mix(a, r.form as u32);
-    let c = marks::mix(b, r.target as u32);
-    let d = marks::mix(c, r.source as u32);
-    let e = marks::mix_wide(marks::mix_wide(d, r.start as u64), r.len as u64);
-    let digest = marks::mix_all(e, frame::contents(kb1, kb2, s));
+    let first = (r.no as u64 * 256 + r.form as u64) * 65536
+        + r.target as u64 * 256
+        + r.source as u64;
+    let place = (r.start as u64 % 65536) * 65536 + r.len as u64 % 65536;
+    let a = marks::mix_wide(marks::mix_wide(t.digest, first), place);
+    let digest = marks::mix_all(a, frame::contents(kb1, kb2, s));
     marks::tally(t, digest, false, r.no == 0)
 }
 
@@ -149,7 +149,7 @@ fn build_case(t: Tally, seed: u32, data: &[u8], out: &mut [u8]) -> Tally {
         return t;
     }
     let b = frame::build(p, &data[..n], &mut out[..room]);
-    let a = marks::mix_wide(marks::mix(t.digest, b.no as u32), b.len as u64);
+    let a = marks::mix_wide(t.digest, b.no as u64 * 65536 + b.len as u64 % 65536);
     let digest = marks::mix_all(a, out);
     let built = marks::tally(t, digest, b.no == 0, false);
     damage(marks::mix(seed, 3), b.len, out);

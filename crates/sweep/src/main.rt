@@ -2,10 +2,7 @@
 // `tests/reference.py`, written apart from the definitions, works the same lines out of the rules.
 mod frames;
 mod marks;
-mod pairs;
 mod times;
-
-use libc::STDOUT_FILENO;
 
 // What a run of cases came to: how many were taken and came back as they were, and a digest of all
 // answers.
@@ -15,24 +12,24 @@ struct Tally {
     back: u32,
 }
 
+// One pair of key bytes: a good one counts as taken, and its KB1 is mixed.
+fn pair_case(t: Tally, kb1: u8, kb2: u8) -> Tally {
+    if keys::good_pair(kb1, kb2) {
+        return marks::tally(t, marks::mix(t.digest, kb1 as u32), true, true);
+    }
+    t
+}
+
 // Case i of a kind.
 fn case(kind: u8, t: Tally, i: u32) -> Tally {
-    let low = (i % 256) as u8;
-    let high = (i / 256 % 256) as u8;
     if kind == 0 {
-        return times::codes_case(t, times::codes(0, low, 0x0B, 0x14, 0x0A));
+        return pair_case(t, (i / 256 % 256) as u8, (i % 256) as u8);
     }
     if kind == 1 {
-        return times::codes_case(t, times::codes(0x32, 0x02, 0x6E, low, 0x0A));
+        return times::codes_case(t, times::listed_codes(i));
     }
     if kind == 2 {
-        return times::codes_case(t, times::codes(0, 1, low, 0xFF, high));
-    }
-    if kind == 3 {
         return times::codes_case(t, times::made_codes(marks::mix(3, i)));
-    }
-    if kind == 4 {
-        return times::windows_case(t, times::made_windows(marks::mix(4, i)));
     }
     frames::frame_case(t, marks::mix(5, i))
 }
@@ -52,17 +49,18 @@ fn run(kind: u8, n: u32) -> Tally {
     t
 }
 
+// Runs so many cases of a kind, and prints what came.
+fn part(what: &[u8], kind: u8, n: u32) {
+    marks::print_tally(what, run(kind, n));
+}
+
 fn main() {
-    io::write_all(
-        STDOUT_FILENO,
-        b"good pairs: KB1, KB2, bits 0 to 4, forms taken\n",
+    part(b"each pair of key bytes", 0, 65536);
+    part(
+        b"each code of P2 max and of P3 max, and each of P3 min with each of P4 min",
+        1,
+        66048,
     );
-    let good = pairs::all();
-    marks::line(b"good pairs of 65536", good as u64);
-    marks::print_tally(b"each code of P2 max", run(0, 256));
-    marks::print_tally(b"each code of P3 max", run(1, 256));
-    marks::print_tally(b"each code of P3 min with each of P4 min", run(2, 65536));
-    marks::print_tally(b"20000 made-up codes", run(3, 20000));
-    marks::print_tally(b"20000 made-up windows", run(4, 20000));
-    marks::print_tally(b"20000 made-up frames", run(5, 20000));
+    part(b"20000 made-up codes", 2, 20000);
+    part(b"20000 made-up frames", 3, 20000);
 }

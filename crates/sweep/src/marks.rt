@@ -44,7 +44,7 @@ pub(crate) fn below(seed: u32, n: u32) -> u32 {
 }
 
 // A line: what is counted, and the count.
-pub(crate) fn line(what: &[u8], n: u64) {
+fn line(what: &[u8], n: u64) {
     io::write_all(STDOUT_FILENO, what);
     io::write_all(STDOUT_FILENO, b": ");
     io::print_decimal(STDOUT_FILENO, n);

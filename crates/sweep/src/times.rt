@@ -1,5 +1,5 @@
-// Timing codes and windows: every code of a maximum, every pair of P3 min and P4 min, made-up codes
-// and made-up windows.
+// Timing codes, to windows and back: every code of a maximum, every pair of P3 min and P4 min, and
+// made-up codes.
 use crate::Tally;
 use crate::marks;
 use timing::Codes;
@@ -44,14 +44,6 @@ fn mix_windows(d: u32, w: Windows) -> u32 {
     marks::mix_wide(e, w.p4min.0)
 }
 
-fn mix_codes(d: u32, c: Codes) -> u32 {
-    let a = marks::mix(d, c.p2min as u32);
-    let b = marks::mix(a, c.p2max as u32);
-    let e = marks::mix(b, c.p3min as u32);
-    let f = marks::mix(e, c.p3max as u32);
-    marks::mix(f, c.p4min as u32)
-}
-
 fn same_codes(a: Codes, b: Codes) -> bool {
     (a.p2min == b.p2min)
         & (a.p2max == b.p2max)
@@ -76,7 +68,7 @@ pub(crate) fn codes_case(t: Tally, c: Codes) -> Tally {
 }
 
 // Five codes.
-pub(crate) fn codes(p2min: u8, p2max: u8, p3min: u8, p3max: u8, p4min: u8) -> Codes {
+fn codes(p2min: u8, p2max: u8, p3min: u8, p3max: u8, p4min: u8) -> Codes {
     Codes {
         p2min: p2min,
         p2max: p2max,
@@ -84,6 +76,18 @@ pub(crate) fn codes(p2min: u8, p2max: u8, p3min: u8, p3max: u8, p4min: u8) -> Co
         p3max: p3max,
         p4min: p4min,
     }
+}
+
+// Each code of P2 max, then each of P3 max, then each of P3 min with each of P4 min.
+pub(crate) fn listed_codes(i: u32) -> Codes {
+    let low = (i % 256) as u8;
+    if i < 256 {
+        return codes(0, low, 0x0B, 0x14, 0x0A);
+    }
+    if i < 512 {
+        return codes(0x32, 0x02, 0x6E, low, 0x0A);
+    }
+    codes(0, 1, low, 0xFF, ((i - 512) / 256 % 256) as u8)
 }
 
 // Five codes made up of a seed, many of them near those that are allowed.
@@ -100,68 +104,4 @@ pub(crate) fn made_codes(seed: u32) -> Codes {
         (d / 65536 % 256) as u8,
         (e / 65536 % 64) as u8,
     )
-}
-
-// A made-up number of steps below most.
-fn made_steps(seed: u32, most: u32) -> u64 {
-    marks::below(marks::next(seed), most) as u64
-}
-
-// Now and then one microsecond, else none.
-fn odd_one(seed: u32) -> u64 {
-    if marks::below(marks::next(marks::next(seed)), 8) == 0 {
-        return 1;
-    }
-    0
-}
-
-// So many steps of 0.5 ms, below most, and now and then one microsecond more.
-fn made_min(seed: u32, most: u32) -> Micros {
-    Micros(made_steps(seed, most) % 1000 * 500 + odd_one(seed) % 2)
-}
-
-// So many steps of 25 ms, the same way, and now and then no limit.
-fn made_p2_max(seed: u32) -> Limit {
-    if marks::below(marks::next(seed), 8) == 0 {
-        return timing::no_limit();
-    }
-    timing::until(Micros(made_steps(seed, 600) % 1000 * 25000 + odd_one(seed) % 2))
-}
-
-// So many steps of 250 ms, the same way.
-fn made_p3_max(seed: u32) -> Limit {
-    if marks::below(marks::next(seed), 8) == 0 {
-        return timing::no_limit();
-    }
-    timing::until(Micros(made_steps(seed, 300) % 1000 * 250000 + odd_one(seed) % 2))
-}
-
-// Windows made up of a seed.
-pub(crate) fn made_windows(seed: u32) -> Windows {
-    let a = marks::next(seed);
-    let b = marks::next(a);
-    let c = marks::next(b);
-    let d = marks::next(c);
-    Windows {
-        p2min: made_min(seed, 300),
-        p2max: made_p2_max(a),
-        p3min: made_min(b, 300),
-        p3max: made_p3_max(c),
-        p4min: made_min(d, 50),
-    }
-}
-
-// One set of windows, to codes and back.
-pub(crate) fn windows_case(t: Tally, w: Windows) -> Tally {
-    let e = timing::codes_of(w);
-    let c = e.codes;
-    let a = marks::mix(t.digest, e.no as u32);
-    let digest = mix_codes(a, c);
-    if e.no != 0 {
-        return marks::tally(t, digest, false, false);
-    }
-    let d = timing::windows_of(c);
-    let again = d.windows;
-    let back = (d.no == 0) & (mix_windows(0, again) == mix_windows(0, w));
-    marks::tally(t, digest, true, back)
 }
