@@ -17,7 +17,7 @@ use Rattle.keys.specs.Keys.{goodPair, takesForm, lengthInFormat, extraLength}
 use Rattle.keys.specs.declared.Form.{Form}
 use Rattle.keys.specs.declared.Form.the-variants.{Plain, Physical, Functional, Foreign}
 use Rattle.frame.specs.Layout.{formNumbered, numberOf, topBits, formatForm, lowBits, addressesOf, extraOf, addressCount, extraCount, headSize, headOf, checksumOf, bodyOf, frameOf, carried, isNowhere}
-use Rattle.frame.specs.Read.{placeRead, lengthRead, notLaid, laidOf, notRead, judged, readOf, dataOf}
+use Rattle.frame.specs.Read.{formatByte, placeRead, lengthRead, lengthOf, notLaid, laidOf, notRead, judged, readOf, dataOf}
 use Rattle.frame.specs.declared.Place.{Place}
 use Rattle.frame.specs.declared.Place.the-variants.{Format, Extra, Nowhere}
 use Rattle.frame.specs.declared.Laid.{Laid}
@@ -26,23 +26,17 @@ use Rattle.frame.proofs.Ready.{Placed, Ready, length-byte}
 use Rattle.frame.proofs.Sizes.{head-le, frame-length}
 use Rattle.frame.proofs.RoundTrip.{frame-reads-back}
 
--- the format byte, the length that is read, where the data starts, and the layout of these
-abbrev first : List ℕ → ℕ
-first s = getD s 0 0
-
-abbrev lengthOf : List ℕ → ℕ
-lengthOf s = lengthRead s (first s) (1 + addressCount (formatForm (first s)))
-
+-- where the data starts, and the layout that is read
 abbrev startOf : ℕ → List ℕ → ℕ
-startOf kb1 s = headSize (formatForm (first s)) (placeRead kb1 (first s))
+startOf kb1 s = headSize (formatForm (formatByte s)) (placeRead kb1 (formatByte s))
 
 abbrev laidAt : ℕ → List ℕ → Laid
-laidAt kb1 s = record { no = taken; form = formatForm (first s); start = startOf kb1 s; len = lengthOf s }
+laidAt kb1 s = record { no = taken; form = formatForm (formatByte s); start = startOf kb1 s; len = lengthOf s }
 
 -- what it means that `laidOf` refuses nothing, and that `judged` does not
 record LaidWell (kb1 : ℕ) (s : List ℕ) : Type 0 where
-  takes : takesForm kb1 (formatForm (first s)) ≡ true
-  announced : isNowhere (placeRead kb1 (first s)) ≡ false
+  takes : takesForm kb1 (formatForm (formatByte s)) ≡ true
+  announced : isNowhere (placeRead kb1 (formatByte s)) ≡ false
   length-some : lengthOf s ≡ 0 → ⊥
   laid : laidOf kb1 s ≡ laidAt kb1 s
 
@@ -57,7 +51,7 @@ four false true false true x e = absurd (omega arith)
 laid-well : (kb1 : ℕ) (s : List ℕ) → laidOf kb1 s .no ≡ taken → LaidWell kb1 s
 unfolding laidOf
 laid-well kb1 s e =
-    let t = four (eqb (length s) 0) (takesForm kb1 (formatForm (first s))) (isNowhere (placeRead kb1 (first s))) (eqb (lengthOf s) 0) (laidAt kb1 s) e in
+    let t = four (eqb (length s) 0) (takesForm kb1 (formatForm (formatByte s))) (isNowhere (placeRead kb1 (formatByte s))) (eqb (lengthOf s) 0) (laidAt kb1 s) e in
     record {
       takes = t .1;
       announced = t .2;
@@ -187,9 +181,9 @@ read-is : (kb1 kb2 : ℕ) (s : List ℕ) → goodPair kb1 kb2 ≡ true → laidO
     → readOf kb1 kb2 s
     ≡ record {
       no = taken;
-      form = numberOf (formatForm (first s));
-      target = carried (formatForm (first s)) (getD s 1 0);
-      source = carried (formatForm (first s)) (getD s 2 0);
+      form = numberOf (formatForm (formatByte s));
+      target = carried (formatForm (formatByte s)) (getD s 1 0);
+      source = carried (formatForm (formatByte s)) (getD s 2 0);
       start = startOf kb1 s;
       len = lengthOf s;
     }
@@ -212,16 +206,16 @@ well-read kb1 kb2 s byte e =
     let g = by-good (goodPair kb1 kb2) (judged s (laidOf kb1 s)) e in
     let j = judged-well s (laidOf kb1 s) (g .1) in
     let w = laid-well kb1 s (j .no-refusal) in
-    let form = formatForm (first s) in
-    let place = placeRead kb1 (first s) in
+    let form = formatForm (formatByte s) in
+    let place = placeRead kb1 (formatByte s) in
     let at = 1 + addressCount form in
     let n = lengthOf s in
     let h = headSize form place in
     let size : length s ≡ h + n + 1 = j .size ∙ ap (λ (l : Laid). l .start + l .len + 1) (w .laid) in
     let sum : checksumOf (take (h + n) s) ≡ getD s (h + n) 0 = rw (w .laid) at (j .sum) in
-    let p = placed-well kb1 s (first s) at (byte at) (w .announced) (w .length-some) in
+    let p = placed-well kb1 s (formatByte s) at (byte at) (w .announced) (w .length-some) in
     let n-is : length (take n (drop h s)) ≡ n = length-take-le n (drop h s) (omega (arith, length-drop h s)) in
-    let head = head-read form place s n (format-made (first s) (byte 0) ∙ ap (λ (k : ℕ). topBits form + k) (sym (p .low))) (p .extra) (omega arith) in
+    let head = head-read form place s n (format-made (formatByte s) (byte 0) ∙ ap (λ (k : ℕ). topBits form + k) (sym (p .low))) (p .extra) (omega arith) in
     together kb1 kb2 s form place (carried form (getD s 1 0)) (carried form (getD s 2 0)) h n (read-is kb1 kb2 s (g .0) (w .laid) size sum)
     (record { good = g .0; takes = w .takes; placed = rw n-is (p .placed) }) (frame-made form place s n size sum head)
 

@@ -16,6 +16,10 @@ use Rattle.frame.specs.declared.Place.the-variants.{Format, Extra, Nowhe
 use Rattle.frame.specs.declared.Laid.{Laid}
 use Rattle.frame.specs.declared.Reading.{Reading}
 
+-- the format byte of a slice that has one
+abbrev pub formatByte : List ℕ → ℕ
+formatByte s = getD s 0 0
+
 -- where the length of a frame with this format byte stands: "a length in the format byte without KB1 bit 0, or an extra length byte without bit 1"
 -- has no place. "An extra length byte below 64 is allowed if bit 1 is set."
 unfoldable pub placeRead : ℕ → ℕ → Place
@@ -23,26 +27,29 @@ placeRead kb1 f =
     if eqb (f % 64) 0 then (if extraLength kb1 then Extra else Nowhere) else
     (if lengthInFormat kb1 then Format else Nowhere)
 
--- the length: the low six bits, or where these are 0 the byte behind the addresses, 0 where the slice has none
+-- the length: the low six bits, or where these are 0 the byte at an index, 0 where the slice has none; that index is behind the addresses
 unfoldable pub lengthRead : List ℕ → ℕ → ℕ → ℕ
 lengthRead s f at = if eqb (f % 64) 0 then getD s at 0 else f % 64
 
-abbrev pub notLaid : ℕ → Laid
-notLaid k = record { no = k; form = Plain; start = 0; len = 0 }
+abbrev pub lengthOf : List ℕ → ℕ
+lengthOf s = lengthRead s (formatByte s) (1 + addressCount (formatForm (formatByte s)))
 
 -- What the front of s says of a frame that starts there: its form, where its data starts and how many bytes these are. "An empty frame to be
 -- read is 7 if the key bytes are good; a format byte is judged for form even if the rest is missing."
+abbrev pub notLaid : ℕ → Laid
+notLaid k = record { no = k; form = Plain; start = 0; len = 0 }
+
 unfoldable pub laidOf : ℕ → List ℕ → Laid
 laidOf kb1 s =
     if eqb (length s) 0 then notLaid badLength else
-    if not (takesForm kb1 (formatForm (getD s 0 0))) then notLaid badForm else
-    if isNowhere (placeRead kb1 (getD s 0 0)) then notLaid badLength else
-    if eqb (lengthRead s (getD s 0 0) (1 + addressCount (formatForm (getD s 0 0)))) 0 then notLaid badLength else
+    if not (takesForm kb1 (formatForm (formatByte s))) then notLaid badForm else
+    if isNowhere (placeRead kb1 (formatByte s)) then notLaid badLength else
+    if eqb (lengthOf s) 0 then notLaid badLength else
     record {
       no = taken;
-      form = formatForm (getD s 0 0);
-      start = headSize (formatForm (getD s 0 0)) (placeRead kb1 (getD s 0 0));
-      len = lengthRead s (getD s 0 0) (1 + addressCount (formatForm (getD s 0 0)));
+      form = formatForm (formatByte s);
+      start = headSize (formatForm (formatByte s)) (placeRead kb1 (formatByte s));
+      len = lengthOf s;
     }
 
 abbrev pub notRead : ℕ → Reading

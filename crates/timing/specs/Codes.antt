@@ -21,8 +21,8 @@ use Rattle.timing.specs.declared.Encoded.{Encoded}
 unfoldable pub minOf : ℕ → Micros
 minOf code = microsOfHalf (halfBy code)
 
--- "P2 max: 01 to F0 count 25 ms, F1 to FE give 6,400 ms times the low four bits, FF no limit, 00 not allowed": in half milliseconds, 0 for
--- the two codes that give no number. 00 is then a maximum of 0, and no minimum is below it.
+-- "P2 max: 01 to F0 count 25 ms, F1 to FE give 6,400 ms times the low four bits, FF no limit, 00 not allowed": in half milliseconds, so 50 and
+-- 12,800 of them, and 0 for the two codes that give no number. 00 is then a maximum of 0, and no minimum is below it.
 unfoldable pub p2Half : ℕ → HalfMs
 p2Half code = halfMs (if leb code 0xF0 then 50 * code else if leb code 0xFE then 12_800 * (code % 16) else 0)
 
