@@ -19,4 +19,4 @@ zero-refused a b c d = rw (le-ltb (a * 500) 0 (omega arith))
 pub bench : Every table
 unfolding Every Says table goodPair lengthInFormat extraLength noAddresses withAddresses isExtended takesForm isUnlimited isBelow isAllowed minOf p2Half p2MaxOf p3MaxOf windowsBy decodedOf formNumbered numberOf topBits formatForm lowBits addressesOf extraOf addressCount extraCount headSize headOf total checksumOf bodyOf frameOf carried isNowhere placeFor planned sizeOf buildNo builtOf placeRead lengthRead laidOf judged readOf dataOf
 bench =
-    ((refl, refl, refl, refl), ((refl, refl, refl, refl), ((refl, refl, refl, refl), (refl, ((refl, refl), ((refl, refl), (refl, (refl, (refl, (refl, (zero-refused, (refl, (refl, tt)))))))))))))
+    ((refl, refl, refl, refl), ((refl, refl, refl, refl), ((refl, refl, refl, refl), (refl, ((refl, (λ s. refl), (λ form target source n room. refl)), ((refl, (λ s. refl), (λ form target source n room. refl)), (refl, (refl, (refl, (refl, (zero-refused, (refl, (refl, tt)))))))))))))

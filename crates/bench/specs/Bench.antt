@@ -12,7 +12,7 @@ use Rattle.timing.specs.Windows.{untilTime, normalSet}
 use Rattle.timing.specs.Codes.{p2MaxOf, notDecoded, decodedOf}
 use Rattle.timing.specs.declared.Codes.{Codes}
 use Rattle.timing.specs.declared.Decoded.{Decoded}
-use Rattle.frame.specs.Build.{planned, builtOf}
+use Rattle.frame.specs.Build.{planned, notBuilt, builtOf}
 use Rattle.frame.specs.Read.{notRead, readOf, dataOf}
 use Rattle.frame.specs.declared.Plan.{Plan}
 
@@ -25,10 +25,10 @@ codes p2min p2max p3min p3max p4min = record { p2min = p2min; p2max = p2max; p3m
 pub data Row : Type 0 where
   -- this plan makes these bytes of this data, and they read back
   frame : Plan → List ℕ → List ℕ → Row
-  -- these key bytes are good; these are 5
+  -- these key bytes are good; these are 5, whatever is read or built
   good : ℕ → ℕ → Row
   five : ℕ → ℕ → Row
-  -- 255 minus the first is the second
+  -- 255 minus the first is the second: plain arithmetic, until the link has its complements
   complement : ℕ → ℕ → Row
   -- this code of P2 max is so many milliseconds; this one is refused beside any other codes
   p2max : ℕ → ℕ → Row
@@ -41,10 +41,14 @@ unfoldable pub Says : Row → Type 0
 Says (frame p bytes made) =
     (builtOf p (length bytes) (length made) ≡ record { no = taken; len = length made })
     × (planned p bytes ≡ made)
-    × (readOf (p .kb1) (p .kb2) made .form ≡ p .form)
+    × (readOf (p .kb1) (p .kb2) made
+    ≡ record { no = taken; form = p .form; target = p .target; source = p .source; start = length made - length bytes - 1; len = length bytes })
     × (dataOf (p .kb1) (p .kb2) made ≡ bytes)
 Says (good kb1 kb2) = goodPair kb1 kb2 ≡ true
-Says (five kb1 kb2) = (goodPair kb1 kb2 ≡ false) × (readOf kb1 kb2 [] ≡ notRead badKeys)
+Says (five kb1 kb2) =
+    (goodPair kb1 kb2 ≡ false)
+    × ((s : List ℕ) → readOf kb1 kb2 s ≡ notRead badKeys)
+    × ((form target source n room : ℕ) → builtOf (plan kb1 kb2 form target source) n room ≡ notBuilt badKeys)
 Says (complement x y) = 255 - x ≡ y
 Says (p2max code ms) = p2MaxOf code ≡ untilTime (micros (ms * 1_000))
 Says (p2max-refused code) = (a b c d : ℕ) → decodedOf (codes a code b c d) ≡ notDecoded

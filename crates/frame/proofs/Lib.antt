@@ -1,6 +1,6 @@
 pub mod Lists
 pub mod Sizes
-pub mod Ready
+pub mod Announced
 pub mod Writing
 pub mod Within
 pub mod Starts

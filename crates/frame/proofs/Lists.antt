@@ -32,11 +32,6 @@ put-over p s out o at ea eo =
     (ap (λ (l : List ℕ). p ++ (s ++ l)) (drop-append-add p (drop (length p) out) (length s) ∙ drop-drop (length s) (length p) out)
     ∙ sym (append-assoc p s (drop (length p + length s) out)) ∙ ap (λ (k : ℕ). (p ++ s) ++ drop k out) (sym (length-append p s)))
 
--- what is written over the front keeps the buffer's length
-pub length-over : (p out : List ℕ) → length p ≤ length out → length (over p out) ≡ length out
-unfolding over
-length-over p out h = simp (length-append, length-drop) (omega arith)
-
 -- all of src copied to the part of out from h on
 pub copied : (src out last : List ℕ) (h : ℕ) → h + length src ≤ length out
     → last ≡ take (length src) src ++ drop (length src) (take (length out - h) (drop h out)) → putMid h (length out - h) out last ≡ put h src out

@@ -1,4 +1,4 @@
--- What is built reads back: over the definitions for every frame that can be built, and then of what `build` leaves in the lent buffer.
+-- What is built reads back: over the definitions for every announced frame, and then of what `build` leaves in the lent buffer.
 -- Assumes nothing.
 use mathlib.Core.Path.{_≡_, refl, sym, ap, _∙_, subst}
 use mathlib.Core.Bool.{Bool, true, false, false≢true}
@@ -21,21 +21,25 @@ use Rattle.frame.specs.declared.Place.{Place}
 use Rattle.frame.specs.declared.Plan.{Plan}
 use Rattle.frame.specs.declared.Built.{Built}
 use Rattle.frame.proofs.Sizes.{head-le, body-length, frame-length}
-use Rattle.frame.proofs.Ready.{Ready, length-byte, none-refuses}
+use Rattle.frame.proofs.Announced.{Announced, length-byte, none-refuses}
 use Rattle.frame.proofs.Starts.{Starts, frame-starts, starts-laid}
 
--- What it means that `frame` reads back as this form, these addresses and this data. The first is said of the frame and anything behind it.
+-- What it means that `frame` reads back as this form, these addresses and this data
 pub record ReadsBack (kb1 kb2 : ℕ) (form : Form) (t s : ℕ) (d frame : List ℕ) : Type 0 where
   -- where the data starts
   pub start : ℕ
-  -- the front of whatever starts with the frame lays out this frame; so its end is fixed by its front
+  -- of the frame with anything behind it, its front gives the form, the length, and so the end ..
   pub laid : (rest : List ℕ) → laidOf kb1 (frame ++ rest) ≡ record { no = taken; form = form; start = start; len = length d }
-  pub ends : start + length d + 1 ≡ length frame
-  -- exactly the frame reads well
+  pub ends : (rest : List ℕ) → take (start + length d + 1) (frame ++ rest) ≡ frame
+  -- .. and the addresses that it carries and the data stand where they do in the frame
+  pub target : (rest : List ℕ) → carried form (getD (frame ++ rest) 1 0) ≡ carried form t
+  pub source : (rest : List ℕ) → carried form (getD (frame ++ rest) 2 0) ≡ carried form s
+  pub bytes : (rest : List ℕ) → take (length d) (drop start (frame ++ rest)) ≡ d
+  -- exactly the frame is read
   pub reading : readOf kb1 kb2 frame ≡ record { no = taken; form = numberOf form; target = carried form t; source = carried form s; start = start; len = length d }
   pub contents : dataOf kb1 kb2 frame ≡ d
 
-module _ (kb1 kb2 : ℕ) (form : Form) (place : Place) (t s : ℕ) (d : List ℕ) (r : Ready kb1 kb2 form place (length d)) where
+module _ (kb1 kb2 : ℕ) (form : Form) (place : Place) (t s : ℕ) (d : List ℕ) (r : Announced kb1 kb2 form place (length d)) where
   frame-laid : (rest : List ℕ) → laidOf kb1 (frameOf form place t s d ++ rest) ≡ record { no = taken; form = form; start = headSize form place; len = length d }
   frame-laid rest =
       starts-laid kb1 (frameOf form place t s d ++ rest) form place t s d (r .takes) (r .placed) (frame-starts kb1 form place t s d (r .placed) rest)
@@ -69,13 +73,16 @@ module _ (kb1 kb2 : ℕ) (form : Form) (place : Place) (t s : ℕ) (d : List ℕ
         whole-starts .source-is,
       )
 
-  -- EVERY FRAME THAT CAN BE BUILT READS BACK, also as the front of more
+  -- EVERY ANNOUNCED FRAME READS BACK, and its front fixes it whatever stands behind
   pub frame-reads-back : ReadsBack kb1 kb2 form t s d (frameOf form place t s d)
   unfolding dataOf
   frame-reads-back = record {
     start = headSize form place;
     laid = frame-laid;
-    ends = sym (frame-length form place t s d);
+    ends = λ rest. take-at (frameOf form place t s d) rest (headSize form place + length d + 1) (frame-length form place t s d);
+    target = λ rest. frame-starts kb1 form place t s d (r .placed) rest .target-is;
+    source = λ rest. frame-starts kb1 form place t s d (r .placed) rest .source-is;
+    bytes = λ rest. frame-starts kb1 form place t s d (r .placed) rest .data-is;
     reading = frame-read;
     contents = rw frame-read (whole-starts .data-is);
   }

@@ -22,7 +22,7 @@ use Rattle.frame.specs.declared.Place.{Place}
 use Rattle.frame.specs.declared.Place.the-variants.{Format, Extra, Nowhere}
 use Rattle.frame.specs.declared.Laid.{Laid}
 use Rattle.frame.specs.declared.Reading.{Reading}
-use Rattle.frame.proofs.Ready.{Placed, Ready, length-byte}
+use Rattle.frame.proofs.Announced.{Placed, Announced, length-byte}
 use Rattle.frame.proofs.Sizes.{head-le, frame-length}
 use Rattle.frame.proofs.RoundTrip.{frame-reads-back}
 
@@ -167,8 +167,8 @@ form-again Foreign = refl
 pub record WellRead (kb1 kb2 : ℕ) (s : List ℕ) : Type 0 where
   -- where its length stands
   pub place : Place
-  -- it is a frame that can be built under these key bytes ..
-  pub ready : Ready kb1 kb2 (formNumbered (readOf kb1 kb2 s .form)) place (length (dataOf kb1 kb2 s))
+  -- it is a frame that these key bytes announce ..
+  pub ready : Announced kb1 kb2 (formNumbered (readOf kb1 kb2 s .form)) place (length (dataOf kb1 kb2 s))
   -- .. and these are its bytes, all of them
   pub whole : s ≡ frameOf (formNumbered (readOf kb1 kb2 s .form)) place (readOf kb1 kb2 s .target) (readOf kb1 kb2 s .source) (dataOf kb1 kb2 s)
 
@@ -194,7 +194,7 @@ read-is kb1 kb2 s g l size sum =
 -- what was read, put together
 together : (kb1 kb2 : ℕ) (s : List ℕ) (form : Form) (place : Place) (t src start n : ℕ)
     → readOf kb1 kb2 s ≡ record { no = taken; form = numberOf form; target = t; source = src; start = start; len = n }
-    → Ready kb1 kb2 form place (length (take n (drop start s))) → s ≡ frameOf form place t src (take n (drop start s)) → WellRead kb1 kb2 s
+    → Announced kb1 kb2 form place (length (take n (drop start s))) → s ≡ frameOf form place t src (take n (drop start s)) → WellRead kb1 kb2 s
 unfolding dataOf
 together kb1 kb2 s form place t src start n e ready whole =
     record { place = place; ready = rw (e, form-again form) ready; whole = whole ∙ rw (e, form-again form) }
@@ -233,14 +233,14 @@ read-small kb1 kb2 s byte e =
       length-byte kb1 (w .place) (length d) (w .ready .placed),
     )
 
--- READS WELL AND IS A FRAME ARE ONE: a slice of bytes reads well exactly if it is a frame that can be built under these key bytes
+-- READING WELL AND BEING A FRAME ARE ONE: a slice of bytes reads well exactly if it is a frame that good key bytes announce
 pub record IsFrame (kb1 kb2 : ℕ) (s : List ℕ) : Type 0 where
   pub form : Form
   pub place : Place
   pub target : ℕ
   pub source : ℕ
   pub bytes : List ℕ
-  pub ready : Ready kb1 kb2 form place (length bytes)
+  pub ready : Announced kb1 kb2 form place (length bytes)
   pub whole : s ≡ frameOf form place target source bytes
 
 pub reads-exactly : (kb1 kb2 : ℕ) (s : List ℕ) → ((i : ℕ) → getD s i 0 < 256) → (readOf kb1 kb2 s .no ≡ taken) ↔ IsFrame kb1 kb2 s

@@ -1,7 +1,7 @@
 // A frame built into a lent buffer.
 ghost use mathlib.Core.Path.{_≡_};
-ghost use Prim.Native.Nat.{_+_, _≤_};
-ghost use lib.ListN.{length};
+ghost use Prim.Native.Nat.{_+_, _≤_, _<_};
+ghost use lib.ListN.{length, set};
 ghost use Rattle.frame.specs.Layout.{addressesOf, extraOf, addressCount, extraCount, headSize, headOf, frameOf};
 ghost use Rattle.frame.specs.Build.{placeFor, buildNo, put, over, Builds, Writable};
 use crate::Built;
@@ -89,6 +89,14 @@ fn put_head(form: Form, place: Place, p: Plan, n: u8, out: &mut [u8]) -> usize
     put_extra(place, n, a, out)
 }
 
+// Writes one byte, and nothing behind it.
+fn put_byte(x: u8, at: usize, out: &mut [u8])
+    requires { ⌜ at < length (now out) ⌝ }
+    ensures { λ _. ⌜ now (out .exit) ≡ set (now (out .entry)) at x ⌝ }
+{
+    out[at] = x;
+}
+
 // Writes a frame at the front of a buffer that has room for it.
 fn write(form: Form, place: Place, p: Plan, bytes: &[u8], out: &mut [u8]) -> usize
     requires { ⌜ Writable form place (length (now bytes)) (length (now out)) ⌝ }
@@ -99,10 +107,9 @@ fn write(form: Form, place: Place, p: Plan, bytes: &[u8], out: &mut [u8]) -> usi
     let h = put_head(form, place, p, n as u8, out);
     put_data(bytes, h, out);
     let e = h + n;
-    let end = e + 1;
     let c = layout::checksum(&out[..e]);
-    out[e] = c;
-    end
+    put_byte(c, e, out);
+    e + 1
 }
 
 // Builds a frame at the front of `out`, and touches nothing behind it. A refusal touches nothing at

@@ -33,10 +33,10 @@ pub struct Built {
 // What the front of a slice says of a frame that starts there: the number, the form, where the
 // data starts and how long it is.
 struct Laid {
-    pub no: u8,
-    pub form: keys::Form,
-    pub start: u8,
-    pub len: u8,
+    no: u8,
+    form: keys::Form,
+    start: u8,
+    len: u8,
 }
 
 // The answer of reading: the number, the form and the addresses, and where in the slice the data

@@ -1,5 +1,7 @@
 // A frame read from a slice, and its data as a part of the slice.
 ghost use mathlib.Core.Path.{_≡_};
+ghost use Prim.Native.Nat.{_+_, _%_, _≤_};
+ghost use lib.Dec.{eqb};
 ghost use lib.ListN.{getD};
 ghost use Rattle.frame.specs.Read.{placeRead, lengthRead, notLaid, laidOf, notRead, judged, readOf, DataIn};
 use crate::Laid;
@@ -8,11 +10,18 @@ use crate::Reading;
 use crate::layout;
 use keys::Form;
 
+// Whether a format byte leaves the length to an extra byte.
+fn has_extra(f: u8) -> bool
+    ensures { λ r. ⌜ r ≡ eqb (f % 64) 0 ⌝ }
+{
+    f % 64 == 0
+}
+
 // Where the length of a frame with this format byte stands.
 fn place_read(kb1: u8, f: u8) -> Place
     ensures { λ r. ⌜ r ≡ placeRead kb1 f ⌝ }
 {
-    if f % 64 == 0 {
+    if has_extra(f) {
         if keys::extra_length(kb1) {
             return Place::Extra;
         }
@@ -39,11 +48,10 @@ fn byte_at(s: &[u8], i: usize) -> u8
 fn length_read(s: &[u8], f: u8, at: usize) -> u8
     ensures { λ r. ⌜ r ≡ lengthRead (now (s .entry)) f at ⌝ }
 {
-    let low = f % 64;
-    if low == 0 {
+    if has_extra(f) {
         return byte_at(s, at);
     }
-    low
+    f % 64
 }
 
 fn not_laid(no: u8) -> Laid
@@ -100,6 +108,14 @@ fn not_read(no: u8) -> Reading
     }
 }
 
+// Where a frame ends whose data ends at e: behind the checksum, which the length does not count.
+fn end_of(e: usize) -> usize
+    requires { ⌜ e ≤ 510 ⌝ }
+    ensures { λ r. ⌜ r ≡ e + 1 ⌝ }
+{
+    e + 1
+}
+
 // Judges whether a slice is exactly the frame that its front lays out.
 fn judge(s: &[u8], l: Laid) -> Reading
     ensures { λ r. ⌜ r ≡ judged (now (s .entry)) l ⌝ }
@@ -111,8 +127,7 @@ fn judge(s: &[u8], l: Laid) -> Reading
     let start = l.start as usize;
     let len = l.len as usize;
     let e = start + len;
-    let end = e + 1;
-    if s.len() != end {
+    if s.len() != end_of(e) {
         return not_read(base::BAD_LENGTH);
     }
     let c = layout::checksum(&s[..e]);

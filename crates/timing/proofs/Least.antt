@@ -1,5 +1,6 @@
--- What windows in force always leave: P2 max is at least 25 ms and P3 max at least 250 ms, both above the 20 ms after which a message or damage
--- ends. So it is for whatever allowed codes stand for, and for both sets. (No limit is the greatest number, and so at least as long.) Assumes nothing.
+-- How short a window in force can be: P2 max is at least 25 ms and P3 max at least 250 ms, both above the 20 ms after which a message or damage
+-- ends. That holds of the windows that allowed codes stand for, and of both sets. No limit stands as the greatest number, and so counts as longer.
+-- Assumes nothing.
 use mathlib.Core.Path.{_≡_, refl}
 use mathlib.Core.Bool.{Bool, true, _&&_, _||_}
 use mathlib.Core.Logic.{⊎-elim}

@@ -1,12 +1,13 @@
 -- Codes become windows and windows codes, and each way back gives what was there: the promises of `windows_of` and `codes_of` undo each other
 -- wherever one of them is not 10. Assumes nothing.
 use mathlib.Core.Path.{_≡_, refl, ap}
-use mathlib.Core.Bool.{Bool, true, _&&_}
+use mathlib.Core.Bool.{Bool, true, false, _&&_}
 use mathlib.Core.Logic.{_↔_}
 use Prim.Native.Nat.{ℕ, _/_, _≤_, _<_}
 use native.Mathlib.Omega.{arith}
 use borrow.Author.Tests.{eqb-true, le-leb, leb-true, eq-eqb}
 use lib.Dec.{eqb, leb}
+use Rattle.base.specs.Choice.{if_then_else_}
 use Rattle.base.specs.Numbers.{taken}
 use Rattle.base.proofs.Tests.{and-split, taken-by, upTo, at-each, by-test}
 use Rattle.units.specs.Units.{byteOf, wholeSteps, halfOf, steps25Of, steps250Of, isSame}
@@ -129,7 +130,7 @@ steps-small : (s : Step25) → p2StepsCode s ≤ 255
 unfolding p2StepsCode
 steps-small s =
     by-test (λ (k : ℕ). k ≤ 255) (leb (s .0) 0xF0) (λ e. let h = leb-true (s .0) 0xF0 e in omega arith)
-    (λ _. by-test (λ (k : ℕ). k ≤ 255) (leb (s .0 / 256) 15) (λ e. let h = leb-true (s .0 / 256) 15 e in omega arith) (λ _. omega arith))
+    (λ _. by-test (λ (k : ℕ). k ≤ 255) (leb (s .0 / 256) 14) (λ e. let h = leb-true (s .0 / 256) 14 e in omega arith) (λ _. omega arith))
 
 p2-small : (l : Limit) → p2Code l ≤ 255
 unfolding p2Code
@@ -155,7 +156,7 @@ pub record HasCodes (w : Windows) : Type 0 where
   pub bytes : Bytes codes
   pub gives : decodedOf codes ≡ record { no = taken; windows = w }
 
--- A WINDOW NO CODE GIVES IS 10, AND NO OTHER: windows get codes exactly if allowed codes stand for them
+-- WINDOWS GET CODES exactly if allowed codes stand for them ..
 pub codes-exactly : (w : Windows) → (encodedOf w .no ≡ taken) ↔ HasCodes w
 unfolding encodedOf
 codes-exactly w = (
@@ -166,3 +167,13 @@ codes-exactly w = (
   },
   λ h. ap (λ (r : Encoded). r .no) (only-codes w (h .codes) (h .bytes) (h .gives)),
 )
+
+-- .. AND ARE 10 where none do
+pub no-codes : (w : Windows) → (HasCodes w → ⊥) → encodedOf w ≡ notEncoded
+unfolding encodedOf
+no-codes w h = by-answer (isAllowed w && sameWindows (windowsBy (codesBy w)) w) (λ e. h (codes-exactly w .0 e))
+  where
+    by-answer : (b : Bool) → ((if b then record { no = taken; codes = codesBy w } else notEncoded) .no ≡ taken → ⊥)
+        → (if b then record { no = taken; codes = codesBy w } else notEncoded) ≡ notEncoded
+    by-answer true none = absurd (none refl)
+    by-answer false none = refl

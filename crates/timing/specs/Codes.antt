@@ -21,6 +21,10 @@ use Rattle.timing.specs.declared.Encoded.{Encoded}
 unfoldable pub minOf : ℕ → Micros
 minOf code = microsOfHalf (halfBy code)
 
+-- "P3 max counts 250 ms, FF is no limit."
+unfoldable pub p3MaxOf : ℕ → Limit
+p3MaxOf code = if eqb code 0xFF then noLimit else untilTime (microsOf250 (step250By code))
+
 -- "P2 max: 01 to F0 count 25 ms, F1 to FE give 6,400 ms times the low four bits, FF no limit, 00 not allowed": in half milliseconds, so 50 and
 -- 12,800 of them, and 0 for the two codes that give no number. 00 is then a maximum of 0, and no minimum is below it.
 unfoldable pub p2Half : ℕ → HalfMs
@@ -28,10 +32,6 @@ p2Half code = halfMs (if leb code 0xF0 then 50 * code else if leb code 0xFE then
 
 unfoldable pub p2MaxOf : ℕ → Limit
 p2MaxOf code = if eqb code 0xFF then noLimit else untilTime (microsOfHalf (p2Half code))
-
--- "P3 max counts 250 ms, FF is no limit."
-unfoldable pub p3MaxOf : ℕ → Limit
-p3MaxOf code = if eqb code 0xFF then noLimit else untilTime (microsOf250 (step250By code))
 
 -- "Five code bytes: P2 min, P2 max, P3 min, P3 max, P4 min."
 unfoldable pub windowsBy : Codes → Windows
@@ -43,7 +43,7 @@ windowsBy c = record {
   p4min = minOf (c .p4min);
 }
 
--- "Codes become windows": those they stand for if these are allowed, else 10
+-- "Codes become windows and windows codes": the windows they stand for if these are allowed, else 10
 abbrev pub notDecoded : Decoded
 notDecoded = record {
   no = badTiming;
@@ -65,7 +65,7 @@ minCode m = byteOf (halfOf m .0)
 
 -- 6,400 ms are 256 steps of 25 ms
 unfoldable pub p2StepsCode : Step25 → ℕ
-p2StepsCode s = if leb (s .0) 0xF0 then s .0 else if leb (s .0 / 256) 15 then 0xF0 + s .0 / 256 else 0xFF
+p2StepsCode s = if leb (s .0) 0xF0 then s .0 else if leb (s .0 / 256) 14 then 0xF0 + s .0 / 256 else 0xFF
 
 unfoldable pub p2Code : Limit → ℕ
 p2Code l = if isUnlimited l then 0xFF else p2StepsCode (steps25Of (l .0))
@@ -90,7 +90,7 @@ sameWindows a b =
     && isSame (a .p3max .0) (b .p3max .0)
     && isSame (a .p4min) (b .p4min)
 
--- "Windows [become] codes; a window no code gives is 10": codes that give these windows back, if they are allowed, else 10
+-- "Codes become windows and windows codes; a window no code gives is 10": codes that give these windows back, if they are allowed, else 10
 abbrev pub notEncoded : Encoded
 notEncoded = record { no = badTiming; codes = record { p2min = 0; p2max = 0; p3min = 0; p3max = 0; p4min = 0 } }
 

@@ -12,8 +12,8 @@ use Rattle.units.specs.declared.Micros.{Micros}
 use Rattle.timing.specs.declared.Limit.{Limit}
 use Rattle.timing.specs.declared.Windows.{Windows}
 
--- The end of a window is a time, or no limit. No limit is a value of the type of its own: it stands as the greatest number that a `Micros`
--- holds, and a definition asks `isUnlimited` before it looks at the number.
+-- The end of a window is a time, or no limit. No limit is a value of its own: it stands as the greatest number that a `Micros` holds, and a
+-- definition that puts an end before or behind a time asks `isUnlimited` first.
 abbrev pub untilTime : Micros → Limit
 untilTime m = record { 0 = m }
 
@@ -23,7 +23,7 @@ noLimit = untilTime (micros 18_446_744_073_709_551_615)
 unfoldable pub isUnlimited : Limit → Bool
 isUnlimited l = eqb (l .0 .0) 18_446_744_073_709_551_615
 
--- "All windows include both ends." "'Passed' is strict .. An unlimited window never passes."
+-- "All windows include both ends." And from "Events and what the link does": passed is strict, and "An unlimited window never passes."
 unfoldable pub isPassed : Limit → Micros → Bool
 isPassed l gap = not (isUnlimited l) && isEarlier (l .0) gap
 

@@ -64,7 +64,7 @@ pub fn no_limit() -> Limit
 pub fn is_unlimited(l: Limit) -> bool
     ensures { λ r. ⌜ r ≡ isUnlimited l ⌝ }
 {
-    l.0.0 == ENDLESS
+    units::same(l.0, Micros(ENDLESS))
 }
 
 // Whether a window's end has passed after a gap. One without an end never passes: no number of
@@ -72,7 +72,7 @@ pub fn is_unlimited(l: Limit) -> bool
 pub fn passed(l: Limit, gap: Micros) -> bool
     ensures { λ r. ⌜ r ≡ isPassed l gap ⌝ }
 {
-    l.0.0 < gap.0
+    units::earlier(l.0, gap)
 }
 
 // Whether a minimum is below its maximum.
@@ -82,6 +82,7 @@ fn below(m: Micros, l: Limit) -> bool
     is_unlimited(l) | units::earlier(m, l.0)
 }
 
+// The normal set.
 fn normal_set() -> Windows
     ensures { λ r. ⌜ r ≡ normalSet ⌝ }
 {
@@ -94,6 +95,7 @@ fn normal_set() -> Windows
     }
 }
 
+// The extended set.
 fn extended_set() -> Windows
     ensures { λ r. ⌜ r ≡ extendedSet ⌝ }
 {
@@ -116,12 +118,14 @@ pub fn set_of(kb1: u8) -> Windows
     normal_set()
 }
 
+// A minimum by its code.
 fn min_of(code: u8) -> Micros
     ensures { λ r. ⌜ r ≡ minOf code ⌝ }
 {
     units::micros_of_half(units::half_by(code))
 }
 
+// P2 max by its code.
 fn p2_max_of(code: u8) -> Limit
     ensures { λ r. ⌜ r ≡ p2MaxOf code ⌝ }
 {
@@ -131,6 +135,7 @@ fn p2_max_of(code: u8) -> Limit
     until(units::micros_of_half(p2max::p2_half(code)))
 }
 
+// P3 max by its code.
 fn p3_max_of(code: u8) -> Limit
     ensures { λ r. ⌜ r ≡ p3MaxOf code ⌝ }
 {
@@ -153,6 +158,7 @@ fn windows_by(c: Codes) -> Windows
     }
 }
 
+// Whether windows are allowed.
 fn is_allowed(w: Windows) -> bool
     ensures { λ r. ⌜ r ≡ isAllowed w ⌝ }
 {
@@ -192,12 +198,14 @@ fn not_decoded() -> Decoded
     }
 }
 
+// The code that can give a minimum.
 fn min_code(m: Micros) -> u8
     ensures { λ r. ⌜ r ≡ minCode m ⌝ }
 {
     units::code_of_half(units::half_of(m))
 }
 
+// The code of P2 max that can give so many steps of 25 ms.
 fn p2_steps_code(s: Step25) -> u8
     ensures { λ r. ⌜ r ≡ p2StepsCode s ⌝ }
 {
@@ -205,12 +213,13 @@ fn p2_steps_code(s: Step25) -> u8
     if n <= 0xF0 {
         return n as u8;
     }
-    if n / 256 <= 15 {
+    if n / 256 <= 14 {
         return (0xF0 + n / 256) as u8;
     }
     0xFF
 }
 
+// The code that can give a P2 max.
 fn p2_code(l: Limit) -> u8
     ensures { λ r. ⌜ r ≡ p2Code l ⌝ }
 {
@@ -220,6 +229,7 @@ fn p2_code(l: Limit) -> u8
     p2_steps_code(units::steps_25_of(l.0))
 }
 
+// The code that can give a P3 max.
 fn p3_code(l: Limit) -> u8
     ensures { λ r. ⌜ r ≡ p3Code l ⌝ }
 {
@@ -242,6 +252,7 @@ fn codes_by(w: Windows) -> Codes
     }
 }
 
+// Whether windows are the same.
 fn same_windows(a: Windows, b: Windows) -> bool
     ensures { λ r. ⌜ r ≡ sameWindows a b ⌝ }
 {

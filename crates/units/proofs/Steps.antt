@@ -1,4 +1,4 @@
--- Counting in steps, proved once over the step's size w: every minimum and maximum cites these at 500, 25,000 or 250,000 microseconds.
+-- Counting in steps, proved once over the step's size w. The three minima cite it at 500 microseconds.
 -- Assumes nothing.
 use mathlib.Core.Path.{_≡_}
 use Prim.Native.Nat.{ℕ, _*_, _≤_, _<_}

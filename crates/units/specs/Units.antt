@@ -43,8 +43,8 @@ microsOf25 s = micros (s .0 * 25_000)
 abbrev pub microsOf250 : Step250 → Micros
 microsOf250 s = micros (s .0 * 250_000)
 
--- microseconds become steps: the whole steps of w microseconds in v, or the greatest number of steps that there is a type for.
--- Whether v is so many steps exactly is seen by turning them back (`steps-back`, `whole-steps`)
+-- microseconds become steps: the whole steps of w microseconds in v, or the most that 32 bits hold. So many steps, as microseconds and back, are
+-- so many steps (`steps-back`); whether v is so many steps exactly is seen by turning them back.
 unfoldable pub wholeSteps : ℕ → ℕ → ℕ
 wholeSteps w v = if leb (v / w) 4_294_967_295 then v / w else 4_294_967_295
 

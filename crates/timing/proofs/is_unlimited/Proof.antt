@@ -1,6 +1,6 @@
 -- `timing::is_unlimited` meets its contract: at each return, the tests and matches on the way there pick the case of the definition.
 -- Assumes nothing.
-use mathlib.Core.Path.{refl}
+use borrow.Author.Needs.{needs}
 use Rattle.timing.specs.Windows.{isUnlimited}
 use Rattle.timing.proofs.is_unlimited.Statement.{statement}
 use Rattle.timing.proofs.is_unlimited.Tie as tie
@@ -10,4 +10,5 @@ unfolding isUnlimited
 is-unlimited-spec =
     tie.close
     (tie.spec
-    (λ c. refl))
+    (λ c κs. search needs)
+    (λ c. rw (c .same .ensures)))

@@ -1,7 +1,7 @@
 -- `frame::builder::build` meets its contract: a refusal touches nothing, and otherwise `write` has put the frame there.
 -- Assumes nothing.
 use borrow.Author.Needs.{needs}
-use Rattle.frame.proofs.Ready.{writable, builds-refused, builds-done}
+use Rattle.frame.proofs.Announced.{writable, builds-refused, builds-done}
 use Rattle.frame.proofs.builder.build.Statement.{statement}
 use Rattle.frame.proofs.builder.build.Tie as tie
 

@@ -7,7 +7,7 @@ use borrow.Author.Needs.{needs}
 use borrow.Author.Tests.{le-ltb, lt-ltb}
 use Rattle.frame.specs.Layout.{isNowhere}
 use Rattle.frame.specs.Build.{placeFor, buildNo, sizeOf}
-use Rattle.frame.proofs.Ready.{length-byte, placed-for}
+use Rattle.frame.proofs.Announced.{length-byte, placed-for}
 use Rattle.frame.proofs.builder.build_no.Statement.{statement}
 use Rattle.frame.proofs.builder.build_no.Tie as tie
 

@@ -1,7 +1,6 @@
 -- `frame::reader::length_read` meets its contract: at each return, the tests and matches on the way there pick the case of the definition.
 -- Assumes nothing.
 use borrow.Author.Needs.{needs}
-use borrow.Author.Tests.{eq-eqb, ne-eqb}
 use Rattle.frame.specs.Read.{lengthRead}
 use Rattle.frame.proofs.reader.length_read.Statement.{statement}
 use Rattle.frame.proofs.reader.length_read.Tie as tie
@@ -12,5 +11,6 @@ length-read-spec =
     tie.close
     (tie.spec
     (λ c κs. search needs)
-    (λ c. rw (c .byte-at .ensures, eq-eqb _ _ (c .before .if1 .taken)))
-    (λ c. rw (ne-eqb _ _ (c .if1 .left))))
+    (λ c κs. search needs)
+    (λ c. rw (c .byte-at .ensures, ← (c .before .before .has-extra .ensures), c .before .if1 .taken))
+    (λ c. rw (← (c .before .has-extra .ensures), c .if1 .left)))

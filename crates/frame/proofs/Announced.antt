@@ -1,5 +1,6 @@
--- What it means that a frame can be built: good key bytes, a form they take, and a length with its place. Assumes nothing.
-use mathlib.Core.Path.{_≡_, refl, sym, _∙_}
+-- What key bytes announce: good key bytes, a form they take, and a length in a place that they announce and that holds it. Of the announced
+-- frames `build` makes those with the length in the format byte wherever it may stand there; `read` takes them all. Assumes nothing.
+use mathlib.Core.Path.{_≡_, refl, sym, ap, _∙_}
 use mathlib.Core.Bool.{Bool, true, false, _&&_, not, true≢false}
 use mathlib.Core.List.{List}
 use Prim.Native.Nat.{ℕ, _+_, _≤_}
@@ -24,7 +25,8 @@ Placed kb1 Format n = (lengthInFormat kb1 ≡ true) × (1 ≤ n) × (n ≤ 63)
 Placed kb1 Extra n = (extraLength kb1 ≡ true) × (1 ≤ n) × (n ≤ 255)
 Placed kb1 Nowhere n = ⊥
 
-pub record Ready (kb1 kb2 : ℕ) (form : Form) (place : Place) (n : ℕ) : Type 0 where
+-- a frame of this form, with n bytes of data and its length in this place, is announced by good key bytes
+pub record Announced (kb1 kb2 : ℕ) (form : Form) (place : Place) (n : ℕ) : Type 0 where
   pub good : goodPair kb1 kb2 ≡ true
   pub takes : takesForm kb1 form ≡ true
   pub placed : Placed kb1 place n
@@ -65,7 +67,7 @@ placed-for kb1 n h = by-tests kb1 n (lengthInFormat kb1 && (leb 1 n && leb n 63)
 
 -- the number 0 comes only where no test refuses
 pub record NoneRefuses (p : Plan) (n room : ℕ) : Type 0 where
-  pub ready : Ready (p .kb1) (p .kb2) (formNumbered (p .form)) (placeFor (p .kb1) n) n
+  pub ready : Announced (p .kb1) (p .kb2) (formNumbered (p .form)) (placeFor (p .kb1) n) n
   pub roomy : sizeOf p n ≤ room
 
 through : (a b c d : Bool) → (if not a then badKeys else if not b then badForm else if c then badLength else if d then noRoom else taken) ≡ taken
@@ -104,15 +106,23 @@ writable p n room k form place ek e ef ep =
       fits = r .roomy;
     })
 
+-- the frame that is planned
+planned-is : (p : Plan) (bytes : List ℕ) (form : Form) (place : Place) → form ≡ formNumbered (p .form) → place ≡ placeFor (p .kb1) (length bytes)
+    → frameOf form place (p .target) (p .source) bytes ≡ planned p bytes
+unfolding planned
+planned-is p bytes form place ef ep = λ i. frameOf (ef i) (ep i) (p .target) (p .source) bytes
+
 -- what `build` promises, by its two returns, where its number is k
 module _ (p : Plan) (bytes out : List ℕ) (k : ℕ) (ek : k ≡ buildNo p (length bytes) (length out)) where
   pub builds-refused : (k ≡ taken → ⊥) → Builds p bytes out (notBuilt k) out
   unfolding builtOf bufferAfter
   builds-refused h = record { answer = rw (← ek, ne-eqb k 0 h); memory = rw (← ek, ne-eqb k 0 h) }
 
-  pub builds-done : (form : Form) (place : Place) (len : ℕ) (after : List ℕ) → k ≡ taken → form ≡ formNumbered (p .form) → place ≡ placeFor (p .kb1) (length bytes)
-      → len ≡ headSize form place + length bytes + 1 → after ≡ over (frameOf form place (p .target) (p .source) bytes) out
-      → Builds p bytes out (record { no = taken; len = len }) after
-  unfolding builtOf bufferAfter sizeOf planned
-  builds-done form place len after e ef ep el em =
-      record { answer = rw (← ek, eq-eqb k 0 e, ← ef, ← ep, el); memory = rw (← ek, eq-eqb k 0 e, ← ef, ← ep, em) }
+  pub builds-done : (form : Form) (place : Place) (len : ℕ) (after : List ℕ) → k ≡ taken → form ≡ formNumbered (p .form)
+      → place ≡ placeFor (p .kb1) (length bytes) → len ≡ headSize form place + length bytes + 1
+      → after ≡ over (frameOf form place (p .target) (p .source) bytes) out → Builds p bytes out (record { no = taken; len = len }) after
+  unfolding builtOf bufferAfter sizeOf
+  builds-done form place len after e ef ep el em = record {
+    answer = rw (← ek, eq-eqb k 0 e, ← ef, ← ep, el);
+    memory = em ∙ ap (λ (f : List ℕ). over f out) (planned-is p bytes form place ef ep) ∙ rw (← ek, eq-eqb k 0 e);
+  }
