@@ -117,6 +117,10 @@ P3_MAX[0xFF] = NO_LIMIT
 MINIMUM = {code: 500 * code for code in range(256)}
 
 
+NORMAL = (25_000, 50_000, 55_000, 5_000_000, 5_000)
+EXTENDED = (0, 1_000_000, 5_500, 5_000_000, 5_000)
+
+
 def under(low, high):
     return high == NO_LIMIT or low < high
 
@@ -137,7 +141,7 @@ def decode(codes):
 def encode(windows):
     found = []
     for value, table in zip(windows, (MINIMUM, P2_MAX, MINIMUM, P3_MAX, MINIMUM)):
-        codes = [code for code, stands in table.items() if stands == value and type(stands) is type(value)]
+        codes = [code for code, stands in table.items() if stands == value]
         found.append(codes)
     if all(len(codes) == 1 for codes in found) and allowed(*windows):
         return 0, tuple(codes[0] for codes in found)
@@ -174,7 +178,7 @@ def top(seed):
 
 
 class Tally:
-    """Cases of one kind: how many were taken, how many came back as they were, and a digest of all answers."""
+    """Cases of one kind: how many were taken, how many came back (codes that their windows have, slices that read well), and a digest of all answers."""
 
     def __init__(self, what):
         self.what, self.taken, self.back, self.digest = what, 0, 0, 0
@@ -186,8 +190,7 @@ class Tally:
     def pair(self, kb1, kb2):
         if is_good(kb1, kb2):
             self.taken += 1
-            self.back += 1
-            self.digest = mix(self.digest, kb1)
+            self.digest = mix(self.digest, kb1, kb2)
 
     def codes(self, codes):
         no, windows = decode(codes)
@@ -196,25 +199,34 @@ class Tally:
             self.taken += 1
             self.back += encode(windows) == (0, tuple(codes))
 
-    def frame(self, seed):
-        data, out = made_bytes(seed, 260), made_bytes(after(seed), 270)
-        a = after(seed)
-        b = after(a)
-        kb1, kb2, form = made_kb1(a), made_kb2(b), top(a) % 4
-        target, source = top(b) % 256, top(after(b)) % 256
-        n, room = made_length(mix(seed, 1)), made_room(mix(seed, 2))
-        lent = out[:room]
-        no, size = build(kb1, kb2, form, target, source, data[:n], lent)
-        out[:room] = lent
-        self.taken += no == 0
-        self.digest = mix(mix_wide(self.digest, no << 16 | size), *out)
-        damage(mix(seed, 3), size, out)
-        s = out[: made_end(mix(seed, 4), size)]
+    def set(self, kb1):
+        self.digest = mix_windows(self.digest, EXTENDED if bits(kb1)[4] else NORMAL)
+
+    def read(self, kb1, kb2, s):
         no, form, target, source, start, length = read(kb1, kb2, s)
         self.back += no == 0
         self.digest = mix_wide(self.digest, no << 24 | form << 16 | target << 8 | source)
         self.digest = mix_wide(self.digest, start << 16 | length)
         self.digest = mix(self.digest, *s[start : start + length])
+
+    def plan(self, seed):
+        data, out = made_bytes(seed, 260), made_bytes(after(seed), 270)
+        a = after(seed)
+        b = after(a)
+        kb1, kb2, form = made_kb1(a), 0x8F, top(a) % 4
+        target, source = top(b) % 256, top(after(b)) % 256
+        n, room = made_length(mix(seed, 1), 261), made_length(mix(seed, 2), 271)
+        lent = out[:room]
+        no, size = build(kb1, kb2, form, target, source, data[:n], lent)
+        out[:room] = lent
+        self.taken += no == 0
+        self.digest = mix(mix_wide(self.digest, no << 16 | size), *out)
+        self.read(kb1, kb2, out[:size])
+
+    def slice(self, seed):
+        s = made_bytes(seed, 270)[: made_length(mix(seed, 1), 270)]
+        dress(mix(seed, 2), s)
+        self.read(made_kb1(mix(seed, 3)), 0x8F, s)
 
 
 def made_bytes(seed, n):
@@ -230,30 +242,28 @@ def made_kb1(seed):
     return top(after(s)) % 256 if top(s) % 8 == 0 else GOOD_KB1[top(after(s)) % 18]
 
 
-def made_kb2(seed):
+def made_length(seed, most):
     s = after(seed)
-    return top(after(s)) % 256 if top(s) % 16 == 0 else 0x8F
+    return top(after(s)) % (70 if top(s) % 2 == 0 else most)
 
 
-def made_length(seed):
-    s = after(seed)
-    return top(after(s)) % (70 if top(s) % 2 == 0 else 261)
-
-
-def made_room(seed):
-    s = after(seed)
-    return 270 if top(s) % 2 == 0 else top(after(s)) % 271
-
-
-def made_end(seed, size):
-    return {0: 270, 1: size + 1, 2: max(size - 1, 0)}.get(top(after(seed)) % 6, size)
-
-
-def damage(seed, size, out):
-    s = after(seed)
-    if top(s) % 3 == 0:
-        at = top(after(s)) % (size + 1)
-        out[at] = (out[at] + 1 + top(s) % 255) % 256
+def dress(seed, s):
+    """Makes s look like a frame of its size, now and then one off, with mostly the right checksum."""
+    if len(s) < 5:
+        return
+    a = after(seed)
+    b = after(a)
+    size = len(s) - (top(b) % 8 == 7)
+    mode = 0x80 | b // 524288 % 2 * 0x40
+    layouts = (
+        {0: (size - 2) % 64, 4: (size - 5) % 256},
+        {0: mode | (size - 4) % 64, 4: (size - 5) % 256},
+        {0: 0, 1: (size - 3) % 256},
+        {0: mode, 3: (size - 5) % 256},
+    )
+    for at, byte in layouts[top(a) % 4].items():
+        s[at] = byte
+    s[-1] = (sum(s[:-1]) + (b // 1048576 % 8 == 7)) % 256
 
 
 def made_codes(seed):
@@ -267,11 +277,14 @@ def main():
     listed = [(0, code, 0x0B, 0x14, 0x0A) for code in range(256)]
     listed += [(0x32, 0x02, 0x6E, code, 0x0A) for code in range(256)]
     listed += [(0, 1, p3min, 0xFF, p4min) for p4min in range(256) for p3min in range(256)]
+    listed += [(50 * k + about, k, 0x6E, 0x14, 0x0A) for k in range(1, 6) for about in (-1, 0, 1)]
     runs = (
         ("each pair of key bytes", 65536, lambda t, i: t.pair(i // 256, i % 256)),
-        ("each code of P2 max and of P3 max, and each of P3 min with each of P4 min", 66048, lambda t, i: t.codes(listed[i])),
+        ("each code of P2 and P3 max, P3 min with P4 min, and P2 min about P2 max", 66063, lambda t, i: t.codes(listed[i])),
         ("20000 made-up codes", 20000, lambda t, i: t.codes(made_codes(mix(3, i)))),
-        ("20000 made-up frames", 20000, lambda t, i: t.frame(mix(5, i))),
+        ("the set of each KB1", 256, lambda t, i: t.set(i)),
+        ("20000 made-up plans, built and read", 20000, lambda t, i: t.plan(mix(5, i))),
+        ("20000 made-up slices, read", 20000, lambda t, i: t.slice(mix(6, i))),
     )
     for what, n, case in runs:
         tally = Tally(what)

@@ -1,4 +1,4 @@
--- Laws on tests that every crate cites: a test taken apart, a choice followed both ways, a test computed at each number below a bound.
+-- Laws on tests, for the crates above: a test taken apart, a choice followed both ways, a test computed at each number below a bound.
 -- Assumes nothing.
 use mathlib.Core.Path.{_≡_, refl}
 use mathlib.Core.Bool.{Bool, true, false, _&&_, _||_, false≢true}

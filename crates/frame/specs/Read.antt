@@ -34,11 +34,11 @@ lengthRead s f at = if eqb (f % 64) 0 then getD s at 0 else f % 64
 abbrev pub lengthOf : List ℕ → ℕ
 lengthOf s = lengthRead s (formatByte s) (1 + addressCount (formatForm (formatByte s)))
 
--- What the front of s says of a frame that starts there: its form, where its data starts and how many bytes these are. "An empty frame to be
--- read is 7 if the key bytes are good; a format byte is judged for form even if the rest is missing."
 abbrev pub notLaid : ℕ → Laid
 notLaid k = record { no = k; form = Plain; start = 0; len = 0 }
 
+-- What the front of s says of a frame that starts there: its form, where its data starts and how many bytes these are. "An empty frame to be
+-- read is 7 if the key bytes are good; a format byte is judged for form even if the rest is missing."
 unfoldable pub laidOf : ℕ → List ℕ → Laid
 laidOf kb1 s =
     if eqb (length s) 0 then notLaid badLength else

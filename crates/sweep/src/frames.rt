@@ -1,4 +1,5 @@
-// Frames: made-up plans built into made-up buffers, and what is there read, whole or damaged.
+// Frames: made-up plans built into made-up buffers and read again, and made-up slices that look like
+// frames, read under other key bytes.
 ghost use Prim.Native.Nat.{_≤_};
 use crate::Tally;
 use crate::marks;
@@ -35,15 +36,6 @@ fn made_kb1(seed: u32) -> u8 {
     GOOD[(marks::next(s) / 65536 % 18) as usize]
 }
 
-// A made-up KB2: mostly 8F.
-fn made_kb2(seed: u32) -> u8 {
-    let s = marks::next(seed);
-    if marks::below(s, 16) == 0 {
-        return (marks::next(s) / 65536 % 256) as u8;
-    }
-    0x8F
-}
-
 // A made-up plan.
 fn made_plan(seed: u32) -> Plan {
     let a = marks::next(seed);
@@ -51,53 +43,20 @@ fn made_plan(seed: u32) -> Plan {
     let c = marks::next(b);
     Plan {
         kb1: made_kb1(a),
-        kb2: made_kb2(b),
+        kb2: 0x8F,
         form: (a / 65536 % 4) as u8,
         target: (b / 65536 % 256) as u8,
         source: (c / 65536 % 256) as u8,
     }
 }
 
-// A made-up length: half of them short, none above 260.
-fn made_length(seed: u32) -> usize
-    ensures { λ r. ⌜ r ≤ 260 ⌝ }
-{
+// A made-up length up to most: half of them below 70.
+fn made_length(seed: u32, most: u32) -> usize {
     let s = marks::next(seed);
     if s / 65536 % 2 == 0 {
-        return (marks::next(s) / 65536 % 70) as usize;
+        return marks::below(marks::next(s), 70) as usize;
     }
-    (marks::next(s) / 65536 % 261) as usize
-}
-
-// A made-up room: half of them all of 270 bytes.
-fn made_room(seed: u32) -> usize
-    ensures { λ r. ⌜ r ≤ 270 ⌝ }
-{
-    let s = marks::next(seed);
-    if s / 65536 % 2 == 0 {
-        return 270;
-    }
-    (marks::next(s) / 65536 % 271) as usize
-}
-
-// How much of the buffer is read: so many bytes as were built, one less, one more, or all.
-fn made_end(seed: u32, len: usize) -> usize
-    ensures { λ r. ⌜ r ≤ 270 ⌝ }
-{
-    let n = len % 269;
-    let k = marks::next(seed) / 65536 % 6;
-    if k == 0 {
-        return 270;
-    }
-    if k == 1 {
-        return n + 1;
-    }
-    if k == 2 {
-        if 0 < n {
-            return n - 1;
-        }
-    }
-    n
+    marks::below(marks::next(s), most) as usize
 }
 
 // Fills a slice with made-up bytes.
@@ -111,21 +70,71 @@ fn fill(seed: u32, s: &mut [u8]) {
     }
 }
 
-// Changes one byte of the buffer, in one case of three, somewhere among the first n and the next.
-fn damage(seed: u32, n: usize, out: &mut [u8]) {
-    let s = marks::next(seed);
-    if s / 65536 % 3 != 0 {
-        return;
+// The sum of all bytes but the last.
+fn sum_before_last(s: &[u8]) -> u32 {
+    let mut sum: u32 = 0;
+    let mut i = 1;
+    while i < s.len() {
+        sum = (sum % 256 + marks::wide(s[i - 1]) % 256) % 256;
+        i += 1;
     }
-    let k = n % 270 + 1;
-    let at = (marks::next(s) / 65536) as usize % k;
-    if at < out.len() {
-        let old = marks::wide(out[at]);
-        out[at] = ((old % 256 + 1 + s / 65536 % 255) % 256) as u8;
-    }
+    sum
 }
 
-// Reads the front of the buffer, and mixes all that comes of it.
+// The format byte of a slice that looks like a frame of so many bytes: with the length in it (kind 0
+// without and 1 with addresses), or leaving it to an extra byte (2 and 3).
+fn format_of(kind: u32, top: u32, size: u32) -> u8 {
+    if kind == 0 {
+        return ((size % 4096 + 62) % 64) as u8;
+    }
+    if kind == 1 {
+        return (128 + top % 2 * 64 + (size % 4096 + 60) % 64) as u8;
+    }
+    if kind == 2 {
+        return 0;
+    }
+    (128 + top % 2 * 64) as u8
+}
+
+// Where its extra length byte stands; a data byte of kinds 0 and 1.
+fn extra_at(kind: u32) -> usize
+    ensures { λ r. ⌜ r ≤ 4 ⌝ }
+{
+    if kind == 2 {
+        return 1;
+    }
+    if kind == 3 {
+        return 3;
+    }
+    4
+}
+
+// Its extra length byte.
+fn extra_of(kind: u32, size: u32) -> u8 {
+    if kind == 2 {
+        return ((size % 4096 + 253) % 256) as u8;
+    }
+    ((size % 4096 + 251) % 256) as u8
+}
+
+// Makes a slice look like a frame of its size, now and then one off, with mostly the right checksum.
+fn dress(seed: u32, s: &mut [u8]) {
+    let n = s.len();
+    if n < 5 {
+        return;
+    }
+    let a = marks::next(seed);
+    let b = marks::next(a);
+    let kind = a / 65536 % 4;
+    let size = (n % 1024) as u32 + 1024 - b / 65536 % 8 / 7;
+    s[0] = format_of(kind, b / 524288, size);
+    let at = extra_at(kind);
+    s[at] = extra_of(kind, size);
+    let sum = sum_before_last(s);
+    s[n - 1] = ((sum % 256 + b / 1048576 % 8 / 7) % 256) as u8;
+}
+
+// Reads a slice, and mixes all that comes of it.
 fn read_case(t: Tally, kb1: u8, kb2: u8, s: &[u8]) -> Tally {
     let r = frame::read(kb1, kb2, s);
     let first = (r.no as u64 * 256 + r.form as u64) * 65536
@@ -137,11 +146,11 @@ fn read_case(t: Tally, kb1: u8, kb2: u8, s: &[u8]) -> Tally {
     marks::tally(t, digest, false, r.no == 0)
 }
 
-// Builds a made-up plan into a buffer, and mixes the answer and the whole buffer.
+// Builds a made-up plan, mixes the answer and the whole buffer, and reads what was built.
 fn build_case(t: Tally, seed: u32, data: &[u8], out: &mut [u8]) -> Tally {
     let p = made_plan(seed);
-    let n = made_length(marks::mix(seed, 1));
-    let room = made_room(marks::mix(seed, 2));
+    let n = made_length(marks::mix(seed, 1), 261);
+    let room = made_length(marks::mix(seed, 2), 271);
     if data.len() < n {
         return t;
     }
@@ -149,22 +158,38 @@ fn build_case(t: Tally, seed: u32, data: &[u8], out: &mut [u8]) -> Tally {
         return t;
     }
     let b = frame::build(p, &data[..n], &mut out[..room]);
-    let a = marks::mix_wide(t.digest, b.no as u64 * 65536 + b.len as u64 % 65536);
+    let len = b.len;
+    let a = marks::mix_wide(t.digest, b.no as u64 * 65536 + len as u64 % 65536);
     let digest = marks::mix_all(a, out);
     let built = marks::tally(t, digest, b.no == 0, false);
-    damage(marks::mix(seed, 3), b.len, out);
-    let end = made_end(marks::mix(seed, 4), b.len);
-    if out.len() < end {
+    if out.len() < len {
         return t;
     }
-    read_case(built, p.kb1, p.kb2, &out[..end])
+    read_case(built, p.kb1, p.kb2, &out[..len])
 }
 
-// One made-up plan with made-up data and a made-up buffer, built, and what is then there read.
+// One made-up plan with made-up data and a made-up buffer, built, and what was built read.
 pub(crate) fn frame_case(t: Tally, seed: u32) -> Tally {
     let mut data = [0u8; 260];
     let mut out = [0u8; 270];
     fill(seed, &mut data);
     fill(marks::next(seed), &mut out);
     build_case(t, seed, &data, &mut out)
+}
+
+// The front of a made-up buffer, dressed as a frame, and read under made-up key bytes.
+fn dressed(t: Tally, seed: u32, s: &mut [u8]) -> Tally {
+    let n = made_length(marks::mix(seed, 1), 270);
+    fill(seed, s);
+    if s.len() < n {
+        return t;
+    }
+    dress(marks::mix(seed, 2), &mut s[..n]);
+    read_case(t, made_kb1(marks::mix(seed, 3)), 0x8F, &s[..n])
+}
+
+// One made-up slice, read.
+pub(crate) fn slice_case(t: Tally, seed: u32) -> Tally {
+    let mut s = [0u8; 270];
+    dressed(t, seed, &mut s)
 }

@@ -4,18 +4,23 @@ mod frames;
 mod marks;
 mod times;
 
-// What a run of cases came to: how many were taken and came back as they were, and a digest of all
-// answers.
+// What a run of cases came to: how many were taken, how many came back (codes that their windows
+// have as codes, slices that read well), and a digest of all answers.
 struct Tally {
     digest: u32,
     taken: u32,
     back: u32,
 }
 
-// One pair of key bytes: a good one counts as taken, and its KB1 is mixed.
+// One pair of key bytes: a good one counts as taken, and is mixed.
 fn pair_case(t: Tally, kb1: u8, kb2: u8) -> Tally {
     if keys::good_pair(kb1, kb2) {
-        return marks::tally(t, marks::mix(t.digest, kb1 as u32), true, true);
+        return marks::tally(
+            t,
+            marks::mix(marks::mix(t.digest, kb1 as u32), kb2 as u32),
+            true,
+            false,
+        );
     }
     t
 }
@@ -31,7 +36,13 @@ fn case(kind: u8, t: Tally, i: u32) -> Tally {
     if kind == 2 {
         return times::codes_case(t, times::made_codes(marks::mix(3, i)));
     }
-    frames::frame_case(t, marks::mix(5, i))
+    if kind == 3 {
+        return times::set_case(t, (i % 256) as u8);
+    }
+    if kind == 4 {
+        return frames::frame_case(t, marks::mix(5, i));
+    }
+    frames::slice_case(t, marks::mix(6, i))
 }
 
 // So many cases of a kind.
@@ -57,10 +68,12 @@ fn part(what: &[u8], kind: u8, n: u32) {
 fn main() {
     part(b"each pair of key bytes", 0, 65536);
     part(
-        b"each code of P2 max and of P3 max, and each of P3 min with each of P4 min",
+        b"each code of P2 and P3 max, P3 min with P4 min, and P2 min about P2 max",
         1,
-        66048,
+        66063,
     );
     part(b"20000 made-up codes", 2, 20000);
-    part(b"20000 made-up frames", 3, 20000);
+    part(b"the set of each KB1", 3, 256);
+    part(b"20000 made-up plans, built and read", 4, 20000);
+    part(b"20000 made-up slices, read", 5, 20000);
 }

@@ -78,7 +78,8 @@ fn codes(p2min: u8, p2max: u8, p3min: u8, p3max: u8, p4min: u8) -> Codes {
     }
 }
 
-// Each code of P2 max, then each of P3 max, then each of P3 min with each of P4 min.
+// Each code of P2 max, then each of P3 max, then each of P3 min with each of P4 min, then P2 min
+// one below, at and one above the first P2 maxima.
 pub(crate) fn listed_codes(i: u32) -> Codes {
     let low = (i % 256) as u8;
     if i < 256 {
@@ -87,7 +88,11 @@ pub(crate) fn listed_codes(i: u32) -> Codes {
     if i < 512 {
         return codes(0x32, 0x02, 0x6E, low, 0x0A);
     }
-    codes(0, 1, low, 0xFF, ((i - 512) / 256 % 256) as u8)
+    if i < 66048 {
+        return codes(0, 1, low, 0xFF, ((i - 512) / 256 % 256) as u8);
+    }
+    let k = (i - 66048) / 3 % 5 + 1;
+    codes((50 * k + i % 3 - 1) as u8, k as u8, 0x6E, 0x14, 0x0A)
 }
 
 // Five codes made up of a seed, many of them near those that are allowed.
@@ -104,4 +109,9 @@ pub(crate) fn made_codes(seed: u32) -> Codes {
         (d / 65536 % 256) as u8,
         (e / 65536 % 64) as u8,
     )
+}
+
+// The set that a KB1 names.
+pub(crate) fn set_case(t: Tally, kb1: u8) -> Tally {
+    marks::tally(t, mix_windows(t.digest, timing::set_of(kb1)), false, false)
 }
