@@ -3,11 +3,11 @@
 use mathlib.Core.Path.{_≡_, refl, sym, ap, _∙_, subst}
 use mathlib.Core.Bool.{Bool, true, false, false≢true}
 use mathlib.Core.List.{List, [], _∷_, _++_, append-nil}
-use Prim.Native.Nat.{ℕ, _+_, _%_, _≤_}
+use Prim.Native.Nat.{ℕ, _+_, _-_, _%_, _≤_}
 use native.Mathlib.Omega.{arith}
 use borrow.Author.Tests.{eq-eqb, eqb-true}
 use lib.Dec.{eqb}
-use lib.ListN.{length, getD, take, drop}
+use lib.ListN.{length, getD, take, drop, length-append}
 use lib.Seq.{take-at, getD-at}
 use Rattle.base.specs.Choice.{if_then_else_}
 use Rattle.base.specs.Numbers.{taken}
@@ -91,11 +91,17 @@ module _ (kb1 kb2 : ℕ) (form : Form) (place : Place) (t s : ℕ) (d : List ℕ
   pub frame-small : length (frameOf form place t s d) ≤ 260
   frame-small = omega (arith, frame-length form place t s d, head-le form place, length-byte kb1 place (length d) (r .placed))
 
--- THE CHECKSUM IS THE SUM OF ALL BYTES BEFORE IT, MODULO 256: of every frame, in its last byte
-pub checksum-last : (form : Form) (place : Place) (t s : ℕ) (d : List ℕ)
-    → frameOf form place t s d ≡ bodyOf form place t s d ++ ((total (bodyOf form place t s d) % 256) ∷ [])
+-- THE CHECKSUM IS THE SUM OF ALL BYTES BEFORE IT, MODULO 256
+abbrev pub SumsUp : List ℕ → Type 0
+SumsUp f = getD f (length f - 1) 0 ≡ total (take (length f - 1) f) % 256
+
+pub frame-sums-up : (form : Form) (place : Place) (t s : ℕ) (d : List ℕ) → SumsUp (frameOf form place t s d)
 unfolding frameOf checksumOf
-checksum-last form place t s d = refl
+frame-sums-up form place t s d =
+    let body = bodyOf form place t s d in
+    let c = total body % 256 in
+    let n : length body ≡ length (body ++ (c ∷ [])) - 1 = omega (arith, length-append body (c ∷ [])) in
+    getD-at body c [] 0 (length (body ++ (c ∷ [])) - 1) n ∙ sym (ap (λ (l : List ℕ). total l % 256) (take-at body (c ∷ []) (length (body ++ (c ∷ [])) - 1) n))
 
 -- a form that key bytes take has its number back
 number-back : (kb1 n : ℕ) → takesForm kb1 (formNumbered n) ≡ true → numberOf (formNumbered n) ≡ n

@@ -1,5 +1,5 @@
 -- Whatever reads well is the frame of what was read, with its length place. Assumes nothing.
-use mathlib.Core.Path.{_≡_, refl, sym, ap, _∙_}
+use mathlib.Core.Path.{_≡_, refl, sym, ap, _∙_, subst}
 use mathlib.Core.Bool.{Bool, true, false, not, true≢false}
 use mathlib.Core.Logic.{_↔_}
 use mathlib.Core.List.{List, [], _∷_, _++_}
@@ -24,7 +24,7 @@ use Rattle.frame.specs.declared.Laid.{Laid}
 use Rattle.frame.specs.declared.Reading.{Reading}
 use Rattle.frame.proofs.Announced.{Placed, Announced, length-byte}
 use Rattle.frame.proofs.Sizes.{head-le, frame-length}
-use Rattle.frame.proofs.RoundTrip.{frame-reads-back}
+use Rattle.frame.proofs.RoundTrip.{frame-reads-back, SumsUp, frame-sums-up}
 
 -- where the data starts, and the layout that is read
 abbrev startOf : ℕ → List ℕ → ℕ
@@ -232,6 +232,13 @@ read-small kb1 kb2 s byte e =
       head-le form (w .place),
       length-byte kb1 (w .place) (length d) (w .ready .placed),
     )
+
+-- A SLICE THAT READS WELL ENDS IN ITS CHECKSUM
+pub read-sums-up : (kb1 kb2 : ℕ) (s : List ℕ) → ((i : ℕ) → getD s i 0 < 256) → readOf kb1 kb2 s .no ≡ taken → SumsUp s
+read-sums-up kb1 kb2 s byte e =
+    let w = well-read kb1 kb2 s byte e in
+    let form = formNumbered (readOf kb1 kb2 s .form) in
+    subst SumsUp (sym (w .whole)) (frame-sums-up form (w .place) (readOf kb1 kb2 s .target) (readOf kb1 kb2 s .source) (dataOf kb1 kb2 s))
 
 -- READING WELL AND BEING A FRAME ARE ONE: a slice of bytes reads well exactly if it is a frame that good key bytes announce
 pub record IsFrame (kb1 kb2 : ℕ) (s : List ℕ) : Type 0 where
