@@ -3,9 +3,9 @@
 use mathlib.Core.Path.{_≡_, refl, ap, _∙_}
 use mathlib.Core.Bool.{true}
 use mathlib.Core.List.{List, [], _∷_, _++_, append-assoc}
-use Prim.Native.Nat.{ℕ, _+_, _%_, _≤_}
+use Prim.Native.Nat.{ℕ, _+_, _/_, _%_, _≤_}
 use native.Mathlib.Omega.{arith}
-use borrow.Author.Tests.{ne-eqb, lt-ltb, le-ltb}
+use borrow.Author.Tests.{eq-eqb, ne-eqb}
 use lib.ListN.{length, getD, take, drop}
 use lib.Seq.{take-append-seam, drop-at}
 use Rattle.base.specs.Numbers.{taken}
@@ -32,10 +32,20 @@ pub record Starts (kb1 : ℕ) (S : List ℕ) (form : Form) (place : Place) (t s 
 -- a format byte has the form and the low bits that it was made of
 pub form-back : (form : Form) (low : ℕ) → low ≤ 63 → formatForm (topBits form + low) ≡ form
 unfolding formatForm topBits
-form-back Plain low h = rw (lt-ltb (0x00 + low) 0x40 (omega arith))
-form-back Foreign low h = rw (le-ltb (0x40 + low) 0x40 (omega arith), lt-ltb (0x40 + low) 0x80 (omega arith))
-form-back Physical low h = rw (le-ltb (0x80 + low) 0x40 (omega arith), le-ltb (0x80 + low) 0x80 (omega arith), lt-ltb (0x80 + low) 0xC0 (omega arith))
-form-back Functional low h = rw (le-ltb (0xC0 + low) 0x40 (omega arith), le-ltb (0xC0 + low) 0x80 (omega arith), le-ltb (0xC0 + low) 0xC0 (omega arith))
+form-back Plain low h = rw (eq-eqb ((0x00 + low) / 64) 0 (omega arith))
+form-back Foreign low h = rw (ne-eqb ((0x40 + low) / 64) 0 (λ e. omega arith), eq-eqb ((0x40 + low) / 64) 1 (omega arith))
+form-back Physical low h =
+    rw (
+      ne-eqb ((0x80 + low) / 64) 0 (λ e. omega arith),
+      ne-eqb ((0x80 + low) / 64) 1 (λ e. omega arith),
+      eq-eqb ((0x80 + low) / 64) 2 (omega arith),
+    )
+form-back Functional low h =
+    rw (
+      ne-eqb ((0xC0 + low) / 64) 0 (λ e. omega arith),
+      ne-eqb ((0xC0 + low) / 64) 1 (λ e. omega arith),
+      ne-eqb ((0xC0 + low) / 64) 2 (λ e. omega arith),
+    )
 
 pub low-back : (form : Form) (low : ℕ) → low ≤ 63 → (topBits form + low) % 64 ≡ low
 unfolding topBits

@@ -3,11 +3,11 @@ use mathlib.Core.Path.{_≡_, refl, sym, ap, _∙_, subst}
 use mathlib.Core.Bool.{Bool, true, false, not, true≢false}
 use mathlib.Core.Logic.{_↔_}
 use mathlib.Core.List.{List, [], _∷_, _++_}
-use Prim.Native.Nat.{ℕ, _+_, _%_, _≤_, _<_}
+use Prim.Native.Nat.{ℕ, _+_, _/_, _%_, _≤_, _<_}
 use native.Mathlib.Numerals.{add-one}
 use native.Mathlib.Omega.{arith}
-use borrow.Author.Tests.{eqb-true, eqb-false, eq-eqb, ltb-true, ltb-false}
-use lib.Dec.{eqb, ltb}
+use borrow.Author.Tests.{eqb-true, eqb-false, eq-eqb}
+use lib.Dec.{eqb}
 use lib.ListN.{length, getD, take, drop, length-drop}
 use lib.Seq.{take-suc, take-add, take-all, length-take-le}
 use Rattle.base.specs.Choice.{if_then_else_}
@@ -113,14 +113,17 @@ head-read Foreign Format s n ef ex h = take-1 s h ∙ ap (λ (k : ℕ). k ∷ []
 head-read Foreign Extra s n ef ex h = take-2 s h ∙ (λ i. ef i ∷ ex i)
 head-read Foreign Nowhere s n ef ex h = take-1 s h ∙ ap (λ (k : ℕ). k ∷ []) ef
 
+top-three : (f : ℕ) → f < 256 → (f / 64 ≡ 0 → ⊥) → (f / 64 ≡ 1 → ⊥) → (f / 64 ≡ 2 → ⊥) → f ≡ 0xC0 + f % 64
+top-three f h n0 n1 n2 = omega arith
+
 -- a format byte is made of its form and its low six bits
 format-made : (f : ℕ) → f < 256 → f ≡ topBits (formatForm f) + f % 64
 unfolding formatForm topBits
 format-made f h =
-    by-test (λ (x : Form). f ≡ topBits x + f % 64) (ltb f 0x40) (λ e. let a = ltb-true f 0x40 e in omega arith)
-    (λ e. by-test (λ (x : Form). f ≡ topBits x + f % 64) (ltb f 0x80) (λ e2. let a = ltb-false f 0x40 e in let b = ltb-true f 0x80 e2 in omega arith)
-    (λ e2. by-test (λ (x : Form). f ≡ topBits x + f % 64) (ltb f 0xC0) (λ e3. let a = ltb-false f 0x80 e2 in let b = ltb-true f 0xC0 e3 in omega arith)
-    (λ e3. let a = ltb-false f 0xC0 e3 in omega arith)))
+    by-test (λ (x : Form). f ≡ topBits x + f % 64) (eqb (f / 64) 0) (λ e. let a = eqb-true (f / 64) 0 e in omega arith)
+    (λ n0. by-test (λ (x : Form). f ≡ topBits x + f % 64) (eqb (f / 64) 1) (λ e. let a = eqb-true (f / 64) 1 e in omega arith)
+    (λ n1. by-test (λ (x : Form). f ≡ topBits x + f % 64) (eqb (f / 64) 2) (λ e. let a = eqb-true (f / 64) 2 e in omega arith)
+    (λ n2. top-three f h (eqb-false (f / 64) 0 n0) (eqb-false (f / 64) 1 n1) (eqb-false (f / 64) 2 n2))))
 
 -- the place that is read, with the length n and the byte b behind the addresses
 record PlacedWell (kb1 f b n : ℕ) (place : Place) : Type 0 where

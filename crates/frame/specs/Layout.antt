@@ -1,11 +1,11 @@
 -- A frame's layout, which building and reading share (document 01, "Frames"; ISO 14230-2, clauses 4.1 to 4.4, figures 4 and 5).
 -- A departure from ISO 14230-2:1999: its clause 4.2 says once that a header has at most 3 bytes; figure 4 and the French text say 4, and 4 decides.
 -- Assumes nothing.
-use Prim.Native.Nat.{ℕ, _+_, _%_}
+use Prim.Native.Nat.{ℕ, _+_, _/_, _%_}
 use mathlib.Core.Bool.{Bool, true, false}
 use mathlib.Core.List.{List, [], _∷_, _++_}
 use lib.ListN.{length}
-use lib.Dec.{eqb, ltb}
+use lib.Dec.{eqb}
 use Rattle.base.specs.Choice.{if_then_else_}
 use Rattle.keys.specs.declared.Form.{Form}
 use Rattle.keys.specs.declared.Form.the-variants.{Plain, Physical, Functional, Foreign}
@@ -34,9 +34,9 @@ topBits Functional = 0xC0
 
 unfoldable pub formatForm : ℕ → Form
 formatForm f =
-    if ltb f 0x40 then Plain else
-    if ltb f 0x80 then Foreign else
-    if ltb f 0xC0 then Physical else Functional
+    if eqb (f / 64) 0 then Plain else
+    if eqb (f / 64) 1 then Foreign else
+    if eqb (f / 64) 2 then Physical else Functional
 
 -- "low six bits the length, or 0 for an extra length byte"
 unfoldable pub lowBits : Place → ℕ → ℕ

@@ -49,13 +49,14 @@ pub(crate) fn top_bits(form: Form) -> u8
 pub fn format_form(f: u8) -> Form
     ensures { λ r. ⌜ r ≡ formatForm f ⌝ }
 {
-    if f < 0x40 {
+    let top = f / 64;
+    if top == 0 {
         return Form::Plain;
     }
-    if f < 0x80 {
+    if top == 1 {
         return Form::Foreign;
     }
-    if f < 0xC0 {
+    if top == 2 {
         return Form::Physical;
     }
     Form::Functional
