@@ -4,8 +4,7 @@ use Prim.Native.Nat.{ℕ, _*_}
 use native.Mathlib.Omega.{arith}
 use borrow.Author.Tests.{le-ltb}
 use Rattle.keys.specs.Keys.{goodPair, lengthInFormat, extraLength, noAddresses, withAddresses, isExtended, takesForm}
-use Rattle.timing.specs.Windows.{isUnlimited, isBelow, isAllowed}
-use Rattle.timing.specs.Codes.{minOf, p2Half, p2MaxOf, p3MaxOf, windowsBy, notDecoded, decodedOf}
+use Rattle.timing.specs.Timing.{isUnlimited, isBelow, isAllowed, minOf, p2Half, p2MaxOf, p3MaxOf, windowsBy, notDecoded, decodedOf}
 use Rattle.frame.specs.Layout.{formNumbered, numberOf, topBits, formatForm, lowBits, addressesOf, extraOf, addressCount, extraCount, headSize, headOf, total, checksumOf, bodyOf, frameOf, carried, isNowhere}
 use Rattle.frame.specs.Build.{placeFor, planned, sizeOf, buildNo, builtOf}
 use Rattle.frame.specs.Read.{placeRead, lengthRead, laidOf, judged, readOf, dataOf}

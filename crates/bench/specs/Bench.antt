@@ -8,8 +8,7 @@ use lib.ListN.{length}
 use Rattle.base.specs.Numbers.{taken, badKeys}
 use Rattle.keys.specs.Keys.{goodPair}
 use Rattle.units.specs.Units.{micros}
-use Rattle.timing.specs.Windows.{untilTime, normalSet}
-use Rattle.timing.specs.Codes.{p2MaxOf, notDecoded, decodedOf}
+use Rattle.timing.specs.Timing.{untilTime, normalSet, p2MaxOf, notDecoded, decodedOf}
 use Rattle.timing.specs.declared.Codes.{Codes}
 use Rattle.timing.specs.declared.Decoded.{Decoded}
 use Rattle.frame.specs.Build.{planned, notBuilt, builtOf}

@@ -13,8 +13,7 @@ use Rattle.base.proofs.Tests.{and-split, or-split, upTo, at-each, by-test}
 use Rattle.keys.specs.Keys.{isExtended}
 use Rattle.units.specs.Units.{isEarlier}
 use Rattle.units.specs.declared.Micros.{Micros}
-use Rattle.timing.specs.Windows.{isUnlimited, isBelow, setOf, p4max, isAllowed}
-use Rattle.timing.specs.Codes.{p2Half, p2MaxOf, p3MaxOf, windowsBy, decodedOf}
+use Rattle.timing.specs.Timing.{isUnlimited, isBelow, setOf, p4max, isAllowed, p2Half, p2MaxOf, p3MaxOf, windowsBy, decodedOf}
 use Rattle.timing.specs.declared.Limit.{Limit}
 use Rattle.timing.specs.declared.Windows.{Windows}
 use Rattle.timing.specs.declared.Codes.{Codes}

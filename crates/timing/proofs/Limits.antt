@@ -7,7 +7,7 @@ use native.Mathlib.Omega.{arith}
 use borrow.Author.Tests.{eqb-true, le-ltb}
 use Rattle.units.specs.Units.{isEarlier}
 use Rattle.units.specs.declared.Micros.{Micros}
-use Rattle.timing.specs.Windows.{isUnlimited, isPassed}
+use Rattle.timing.specs.Timing.{isUnlimited, isPassed}
 use Rattle.timing.specs.declared.Limit.{Limit}
 
 pub plainly-passed : (l : Limit) (gap : Micros) → gap .0 ≤ 18_446_744_073_709_551_615 → isEarlier (l .0) gap ≡ isPassed l gap

@@ -4,8 +4,7 @@ use mathlib.Core.Bool.{Bool}
 use Prim.Native.Nat.{ℕ}
 use Rattle.base.proofs.One.{Only, only}
 use Rattle.units.specs.declared.Micros.{Micros}
-use Rattle.timing.specs.Windows.{untilTime, noLimit, isUnlimited, isPassed, setOf}
-use Rattle.timing.specs.Codes.{decodedOf, encodedOf}
+use Rattle.timing.specs.Timing.{untilTime, noLimit, isUnlimited, isPassed, setOf, decodedOf, encodedOf}
 use Rattle.timing.specs.declared.Limit.{Limit}
 use Rattle.timing.specs.declared.Windows.{Windows}
 use Rattle.timing.specs.declared.Codes.{Codes}

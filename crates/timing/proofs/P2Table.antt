@@ -9,7 +9,7 @@ use borrow.Author.Tests.{eqb-true}
 use lib.Dec.{eqb}
 use lib.ListN.{getD}
 use Rattle.base.proofs.Tests.{at-each}
-use Rattle.timing.specs.Codes.{p2Half}
+use Rattle.timing.specs.Timing.{p2Half}
 
 unfoldable pub table : List ℕ
 table =

@@ -13,9 +13,8 @@ use Rattle.base.proofs.Tests.{and-split, taken-by, upTo, at-each, by-test}
 use Rattle.units.specs.Units.{byteOf, wholeSteps, halfOf, steps25Of, steps250Of, isSame}
 use Rattle.units.specs.declared.Step25.{Step25}
 use Rattle.units.proofs.Steps.{steps-back}
-use Rattle.timing.specs.Windows.{isUnlimited, isAllowed}
-use Rattle.timing.specs.Codes.{minOf, p2Half, p2MaxOf, p3MaxOf, windowsBy, notDecoded, decodedOf}
-use Rattle.timing.specs.Codes.{minCode, p2StepsCode, p2Code, p3Code, codesBy, sameWindows, notEncoded, encodedOf}
+use Rattle.timing.specs.Timing.{isUnlimited, isAllowed, minOf, p2Half, p2MaxOf, p3MaxOf, windowsBy, notDecoded, decodedOf}
+use Rattle.timing.specs.Timing.{minCode, p2StepsCode, p2Code, p3Code, codesBy, sameWindows, notEncoded, encodedOf}
 use Rattle.timing.specs.declared.Limit.{Limit}
 use Rattle.timing.specs.declared.Windows.{Windows}
 use Rattle.timing.specs.declared.Codes.{Codes}

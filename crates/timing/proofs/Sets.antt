@@ -2,8 +2,8 @@
 use mathlib.Core.Path.{_≡_, refl}
 use Rattle.base.specs.Numbers.{taken}
 use Rattle.units.specs.Units.{byteOf, wholeSteps}
-use Rattle.timing.specs.Windows.{isUnlimited, isBelow, normalSet, extendedSet, isAllowed}
-use Rattle.timing.specs.Codes.{minOf, p2Half, p2MaxOf, p3MaxOf, windowsBy, decodedOf, minCode, p2StepsCode, p2Code, p3Code, codesBy, sameWindows, encodedOf}
+use Rattle.timing.specs.Timing.{isUnlimited, isBelow, normalSet, extendedSet, isAllowed}
+use Rattle.timing.specs.Timing.{minOf, p2Half, p2MaxOf, p3MaxOf, windowsBy, decodedOf, minCode, p2StepsCode, p2Code, p3Code, codesBy, sameWindows, encodedOf}
 use Rattle.timing.specs.declared.Windows.{Windows}
 use Rattle.timing.specs.declared.Codes.{Codes}
 

@@ -1,8 +1,8 @@
 // Timing windows, the five codes that change them, and the two sets that KB1 names.
 ghost use mathlib.Core.Path.{_≡_};
-ghost use Rattle.timing.specs.Windows.{untilTime, noLimit, isUnlimited, isPassed, isBelow, normalSet, extendedSet, setOf, isAllowed};
-ghost use Rattle.timing.specs.Codes.{minOf, p2MaxOf, p3MaxOf, windowsBy, notDecoded, decodedOf};
-ghost use Rattle.timing.specs.Codes.{minCode, p2StepsCode, p2Code, p3Code, codesBy, sameWindows, notEncoded, encodedOf};
+ghost use Rattle.timing.specs.Timing.{untilTime, noLimit, isUnlimited, isPassed, isBelow, normalSet, extendedSet, setOf, isAllowed};
+ghost use Rattle.timing.specs.Timing.{minOf, p2MaxOf, p3MaxOf, windowsBy, notDecoded, decodedOf};
+ghost use Rattle.timing.specs.Timing.{minCode, p2StepsCode, p2Code, p3Code, codesBy, sameWindows, notEncoded, encodedOf};
 
 mod p2max;
 

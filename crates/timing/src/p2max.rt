@@ -1,6 +1,6 @@
 // P2 max as a table of 256 entries, by its code byte.
 ghost use mathlib.Core.Path.{_≡_};
-ghost use Rattle.timing.specs.Codes.{p2Half};
+ghost use Rattle.timing.specs.Timing.{p2Half};
 use units::HalfMs;
 
 // P2 max by its code byte, in half milliseconds. 0 where the code gives no number: 00, FF.

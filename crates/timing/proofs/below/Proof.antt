@@ -1,7 +1,7 @@
 -- `timing::below` meets its contract: at each return, the tests and matches on the way there pick the case of the definition.
 -- Assumes nothing.
 use borrow.Author.Needs.{needs}
-use Rattle.timing.specs.Windows.{isBelow}
+use Rattle.timing.specs.Timing.{isBelow}
 use Rattle.timing.proofs.below.Statement.{statement}
 use Rattle.timing.proofs.below.Tie as tie
 

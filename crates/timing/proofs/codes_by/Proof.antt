@@ -1,7 +1,7 @@
 -- `timing::codes_by` meets its contract: at each return, the tests and matches on the way there pick the case of the definition.
 -- Assumes nothing.
 use borrow.Author.Needs.{needs}
-use Rattle.timing.specs.Codes.{codesBy}
+use Rattle.timing.specs.Timing.{codesBy}
 use Rattle.timing.proofs.codes_by.Statement.{statement}
 use Rattle.timing.proofs.codes_by.Tie as tie
 

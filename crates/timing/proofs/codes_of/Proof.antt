@@ -1,7 +1,7 @@
 -- `timing::codes_of` meets its contract: at each return, the tests and matches on the way there pick the case of the definition.
 -- Assumes nothing.
 use borrow.Author.Needs.{needs}
-use Rattle.timing.specs.Codes.{encodedOf}
+use Rattle.timing.specs.Timing.{encodedOf}
 use Rattle.timing.proofs.codes_of.Statement.{statement}
 use Rattle.timing.proofs.codes_of.Tie as tie
 

@@ -1,7 +1,7 @@
 -- `timing::is_allowed` meets its contract: at each return, the tests and matches on the way there pick the case of the definition.
 -- Assumes nothing.
 use borrow.Author.Needs.{needs}
-use Rattle.timing.specs.Windows.{isAllowed}
+use Rattle.timing.specs.Timing.{isAllowed}
 use Rattle.timing.proofs.is_allowed.Statement.{statement}
 use Rattle.timing.proofs.is_allowed.Tie as tie
 

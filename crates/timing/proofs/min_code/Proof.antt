@@ -1,7 +1,7 @@
 -- `timing::min_code` meets its contract: at each return, the tests and matches on the way there pick the case of the definition.
 -- Assumes nothing.
 use borrow.Author.Needs.{needs}
-use Rattle.timing.specs.Codes.{minCode}
+use Rattle.timing.specs.Timing.{minCode}
 use Rattle.timing.proofs.min_code.Statement.{statement}
 use Rattle.timing.proofs.min_code.Tie as tie
 

@@ -1,7 +1,7 @@
 -- `timing::min_of` meets its contract: at each return, the tests and matches on the way there pick the case of the definition.
 -- Assumes nothing.
 use borrow.Author.Needs.{needs}
-use Rattle.timing.specs.Codes.{minOf}
+use Rattle.timing.specs.Timing.{minOf}
 use Rattle.timing.proofs.min_of.Statement.{statement}
 use Rattle.timing.proofs.min_of.Tie as tie
 

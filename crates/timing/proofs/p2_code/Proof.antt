@@ -1,7 +1,7 @@
 -- `timing::p2_code` meets its contract: at each return, the tests and matches on the way there pick the case of the definition.
 -- Assumes nothing.
 use borrow.Author.Needs.{needs}
-use Rattle.timing.specs.Codes.{p2Code}
+use Rattle.timing.specs.Timing.{p2Code}
 use Rattle.timing.proofs.p2_code.Statement.{statement}
 use Rattle.timing.proofs.p2_code.Tie as tie
 

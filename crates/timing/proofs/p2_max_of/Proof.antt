@@ -2,7 +2,7 @@
 -- Assumes nothing.
 use borrow.Author.Needs.{needs}
 use borrow.Author.Tests.{eq-eqb, ne-eqb}
-use Rattle.timing.specs.Codes.{p2MaxOf}
+use Rattle.timing.specs.Timing.{p2MaxOf}
 use Rattle.timing.proofs.p2_max_of.Statement.{statement}
 use Rattle.timing.proofs.p2_max_of.Tie as tie
 

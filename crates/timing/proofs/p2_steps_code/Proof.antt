@@ -2,7 +2,7 @@
 -- Assumes nothing.
 use borrow.Author.Needs.{needs}
 use borrow.Author.Tests.{le-leb, lt-leb}
-use Rattle.timing.specs.Codes.{p2StepsCode}
+use Rattle.timing.specs.Timing.{p2StepsCode}
 use Rattle.timing.proofs.p2_steps_code.Statement.{statement}
 use Rattle.timing.proofs.p2_steps_code.Tie as tie
 

@@ -1,7 +1,7 @@
 -- `timing::p3_code` meets its contract: at each return, the tests and matches on the way there pick the case of the definition.
 -- Assumes nothing.
 use borrow.Author.Needs.{needs}
-use Rattle.timing.specs.Codes.{p3Code}
+use Rattle.timing.specs.Timing.{p3Code}
 use Rattle.timing.proofs.p3_code.Statement.{statement}
 use Rattle.timing.proofs.p3_code.Tie as tie
 

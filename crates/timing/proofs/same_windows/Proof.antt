@@ -1,7 +1,7 @@
 -- `timing::same_windows` meets its contract: at each return, the tests and matches on the way there pick the case of the definition.
 -- Assumes nothing.
 use borrow.Author.Needs.{needs}
-use Rattle.timing.specs.Codes.{sameWindows}
+use Rattle.timing.specs.Timing.{sameWindows}
 use Rattle.timing.proofs.same_windows.Statement.{statement}
 use Rattle.timing.proofs.same_windows.Tie as tie
 

@@ -1,7 +1,7 @@
 -- `timing::set_of` meets its contract: at each return, the tests and matches on the way there pick the case of the definition.
 -- Assumes nothing.
 use borrow.Author.Needs.{needs}
-use Rattle.timing.specs.Windows.{setOf}
+use Rattle.timing.specs.Timing.{setOf}
 use Rattle.timing.proofs.set_of.Statement.{statement}
 use Rattle.timing.proofs.set_of.Tie as tie
 

@@ -1,7 +1,7 @@
 -- `timing::windows_by` meets its contract: at each return, the tests and matches on the way there pick the case of the definition.
 -- Assumes nothing.
 use borrow.Author.Needs.{needs}
-use Rattle.timing.specs.Codes.{windowsBy}
+use Rattle.timing.specs.Timing.{windowsBy}
 use Rattle.timing.proofs.windows_by.Statement.{statement}
 use Rattle.timing.proofs.windows_by.Tie as tie
 

@@ -1,7 +1,7 @@
 -- `timing::windows_of` meets its contract: at each return, the tests and matches on the way there pick the case of the definition.
 -- Assumes nothing.
 use borrow.Author.Needs.{needs}
-use Rattle.timing.specs.Codes.{decodedOf}
+use Rattle.timing.specs.Timing.{decodedOf}
 use Rattle.timing.proofs.windows_of.Statement.{statement}
 use Rattle.timing.proofs.windows_of.Tie as tie
 

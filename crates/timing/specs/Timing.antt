@@ -1,21 +1,60 @@
--- Timing codes: codes become windows and windows codes (document 01, "Timing"; ISO 14230-2, table 5).
--- A departure from ISO 14230-2:1999: its table 5 prints 83 600 ms for FE. By its own rule, and document 01's, FE is 14 times 6,400 ms, 89,600.
+-- Timing windows and timing codes, in document 01's order (document 01, "Timing"; ISO 14230-2, clause 4.5.1, tables 3 to 5).
+-- Departures from ISO 14230-2:1999. The normal set is its table 3; the extended set is document 01's own profile and decides over its table 4.
+-- Its table 5 prints 83 600 ms for FE: by its own rule, and document 01's, FE is 14 times 6,400 ms, 89,600. Clause 4.5.2 (a reply 7F xx 78 stretches
+-- P2 max) is no rule of document 01, and none here.
 -- Assumes nothing.
 use Prim.Native.Nat.{ℕ, _+_, _*_, _/_, _%_}
-use mathlib.Core.Bool.{Bool, _&&_}
+use mathlib.Core.Bool.{Bool, _&&_, _||_, not}
 use lib.Dec.{eqb, leb}
 use Rattle.base.specs.Choice.{if_then_else_}
 use Rattle.base.specs.Numbers.{taken, badTiming}
-use Rattle.units.specs.Units.{micros, halfMs, halfBy, step250By, byteOf, microsOfHalf, microsOf250, halfOf, steps25Of, steps250Of, isSame}
+use Rattle.keys.specs.Keys.{isExtended}
+use Rattle.units.specs.Units.{micros, halfMs, halfBy, step250By, byteOf, microsOfHalf, microsOf250, halfOf, steps25Of, steps250Of, isEarlier, isSame}
 use Rattle.units.specs.declared.Micros.{Micros}
 use Rattle.units.specs.declared.HalfMs.{HalfMs}
 use Rattle.units.specs.declared.Step25.{Step25}
-use Rattle.timing.specs.Windows.{untilTime, noLimit, isUnlimited, isAllowed}
 use Rattle.timing.specs.declared.Limit.{Limit}
 use Rattle.timing.specs.declared.Windows.{Windows}
 use Rattle.timing.specs.declared.Codes.{Codes}
 use Rattle.timing.specs.declared.Decoded.{Decoded}
 use Rattle.timing.specs.declared.Encoded.{Encoded}
+
+-- The end of a window is a time, or no limit. No limit is a value of its own: it stands as the greatest number that a `Micros` holds, and a
+-- definition that puts an end before or behind a time asks `isUnlimited` first.
+abbrev pub untilTime : Micros → Limit
+untilTime m = record { 0 = m }
+
+abbrev pub noLimit : Limit
+noLimit = untilTime (micros 18_446_744_073_709_551_615)
+
+unfoldable pub isUnlimited : Limit → Bool
+isUnlimited l = eqb (l .0 .0) 18_446_744_073_709_551_615
+
+-- | ms                            | P1      | P2         | P3           | P4      |
+-- | normal (ISO 14230-2, table 3) | 0 to 20 | 25 to 50   | 55 to 5,000  | 5 to 20 |
+-- | extended (document 01's own)  | 0 to 20 | 0 to 1,000 | 5.5 to 5,000 | 5 to 20 |
+-- No code changes P1 or P4 max, so a set is the other five.
+abbrev pub normalSet : Windows
+normalSet = record {
+  p2min = micros 25_000;
+  p2max = untilTime (micros 50_000);
+  p3min = micros 55_000;
+  p3max = untilTime (micros 5_000_000);
+  p4min = micros 5_000;
+}
+
+abbrev pub extendedSet : Windows
+extendedSet = record {
+  p2min = micros 0;
+  p2max = untilTime (micros 1_000_000);
+  p3min = micros 5_500;
+  p3max = untilTime (micros 5_000_000);
+  p4min = micros 5_000;
+}
+
+-- the set that KB1 names
+unfoldable pub setOf : ℕ → Windows
+setOf kb1 = if isExtended kb1 then extendedSet else normalSet
 
 -- "Minima count 0.5 ms."
 unfoldable pub minOf : ℕ → Micros
@@ -42,6 +81,20 @@ windowsBy c = record {
   p3max = p3MaxOf (c .p3max);
   p4min = minOf (c .p4min);
 }
+
+-- "Allowed: each min below its max (P4 max stays 20 ms), and P3 min above P4 min." No limit is above every min.
+unfoldable pub isBelow : Micros → Limit → Bool
+isBelow m l = isUnlimited l || isEarlier m (l .0)
+
+abbrev pub p4max : Micros
+p4max = micros 20_000
+
+unfoldable pub isAllowed : Windows → Bool
+isAllowed w =
+    isBelow (w .p2min) (w .p2max)
+    && isBelow (w .p3min) (w .p3max)
+    && isEarlier (w .p4min) p4max
+    && isEarlier (w .p4min) (w .p3min)
 
 -- "Codes become windows and windows codes": the windows they stand for if these are allowed, else 10
 abbrev pub notDecoded : Decoded
@@ -97,3 +150,7 @@ notEncoded = record { no = badTiming; codes = record { p2min = 0; p2max = 0; p3m
 unfoldable pub encodedOf : Windows → Encoded
 encodedOf w =
     if isAllowed w && sameWindows (windowsBy (codesBy w)) w then record { no = taken; codes = codesBy w } else notEncoded
+
+-- "All windows include both ends." And from "Events and what the link does": passed is strict, and "An unlimited window never passes."
+unfoldable pub isPassed : Limit → Micros → Bool
+isPassed l gap = not (isUnlimited l) && isEarlier (l .0) gap
