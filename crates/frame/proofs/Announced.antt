@@ -67,7 +67,7 @@ placed-for kb1 n h = by-tests kb1 n (lengthInFormat kb1 && (leb 1 n && leb n 63)
 
 -- the number 0 comes only where no test refuses
 pub record NoneRefuses (p : Plan) (n room : ℕ) : Type 0 where
-  pub ready : Announced (p .kb1) (p .kb2) (formNumbered (p .form)) (placeFor (p .kb1) n) n
+  pub announced : Announced (p .kb1) (p .kb2) (formNumbered (p .form)) (placeFor (p .kb1) n) n
   pub roomy : sizeOf p n ≤ room
 
 through : (a b c d : Bool) → (if not a then badKeys else if not b then badForm else if c then badLength else if d then noRoom else taken) ≡ taken
@@ -83,7 +83,7 @@ unfolding buildNo
 none-refuses p n room e =
     let t = through (goodPair (p .kb1) (p .kb2)) (takesForm (p .kb1) (formNumbered (p .form))) (isNowhere (placeFor (p .kb1) n)) (ltb room (sizeOf p n)) e in
     record {
-      ready = record { good = t .0; takes = t .1; placed = placed-for (p .kb1) n (t .2) };
+      announced = record { good = t .0; takes = t .1; placed = placed-for (p .kb1) n (t .2) };
       roomy = ltb-false room (sizeOf p n) (t .3);
     }
 
@@ -101,8 +101,8 @@ writable p n room k form place ek e ef ep =
     let r = none-refuses p n room (sym ek ∙ e) in
     rw (ef, ep)
     (record {
-      byte = length-byte (p .kb1) (placeFor (p .kb1) n) n (r .ready .placed);
-      short = short-format (p .kb1) (placeFor (p .kb1) n) n (r .ready .placed);
+      byte = length-byte (p .kb1) (placeFor (p .kb1) n) n (r .announced .placed);
+      short = short-format (p .kb1) (placeFor (p .kb1) n) n (r .announced .placed);
       fits = r .roomy;
     })
 

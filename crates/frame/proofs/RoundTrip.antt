@@ -148,6 +148,6 @@ built-reads-back p bytes out r after b e =
           ap (λ (k : Built). k .len) (b .answer) ∙ rw (eq-eqb (buildNo p n (length out)) taken no)
           (sym (frame-length (formNumbered (p .form)) (placeFor (p .kb1) n) (p .target) (p .source) bytes));
       memory = b .memory ∙ rw (eq-eqb (buildNo p n (length out)) taken no);
-      form-number = number-back (p .kb1) (p .form) (x .ready .takes);
-      reads-back = frame-reads-back (p .kb1) (p .kb2) (formNumbered (p .form)) (placeFor (p .kb1) n) (p .target) (p .source) bytes (x .ready);
+      form-number = number-back (p .kb1) (p .form) (x .announced .takes);
+      reads-back = frame-reads-back (p .kb1) (p .kb2) (formNumbered (p .form)) (placeFor (p .kb1) n) (p .target) (p .source) bytes (x .announced);
     }

@@ -117,7 +117,7 @@ top-three : (f : ℕ) → f < 256 → (f / 64 ≡ 0 → ⊥) → (f / 64 ≡ 1 �
 top-three f h n0 n1 n2 = omega arith
 
 -- a format byte is made of its form and its low six bits
-format-made : (f : ℕ) → f < 256 → f ≡ topBits (formatForm f) + f % 64
+pub format-made : (f : ℕ) → f < 256 → f ≡ topBits (formatForm f) + f % 64
 unfolding formatForm topBits
 format-made f h =
     by-test (λ (x : Form). f ≡ topBits x + f % 64) (eqb (f / 64) 0) (λ e. let a = eqb-true (f / 64) 0 e in omega arith)
@@ -171,7 +171,7 @@ pub record WellRead (kb1 kb2 : ℕ) (s : List ℕ) : Type 0 where
   -- where its length stands
   pub place : Place
   -- it is a frame that these key bytes announce ..
-  pub ready : Announced kb1 kb2 (formNumbered (readOf kb1 kb2 s .form)) place (length (dataOf kb1 kb2 s))
+  pub announced : Announced kb1 kb2 (formNumbered (readOf kb1 kb2 s .form)) place (length (dataOf kb1 kb2 s))
   -- .. and these are its bytes, all of them
   pub whole : s ≡ frameOf (formNumbered (readOf kb1 kb2 s .form)) place (readOf kb1 kb2 s .target) (readOf kb1 kb2 s .source) (dataOf kb1 kb2 s)
 
@@ -199,8 +199,8 @@ together : (kb1 kb2 : ℕ) (s : List ℕ) (form : Form) (place : Place) (t src s
     → readOf kb1 kb2 s ≡ record { no = taken; form = numberOf form; target = t; source = src; start = start; len = n }
     → Announced kb1 kb2 form place (length (take n (drop start s))) → s ≡ frameOf form place t src (take n (drop start s)) → WellRead kb1 kb2 s
 unfolding dataOf
-together kb1 kb2 s form place t src start n e ready whole =
-    record { place = place; ready = rw (e, form-again form) ready; whole = whole ∙ rw (e, form-again form) }
+together kb1 kb2 s form place t src start n e announced whole =
+    record { place = place; announced = rw (e, form-again form) announced; whole = whole ∙ rw (e, form-again form) }
 
 -- WHATEVER READS WELL IS THE FRAME OF WHAT WAS READ
 pub well-read : (kb1 kb2 : ℕ) (s : List ℕ) → ((i : ℕ) → getD s i 0 < 256) → readOf kb1 kb2 s .no ≡ taken → WellRead kb1 kb2 s
@@ -233,7 +233,7 @@ read-small kb1 kb2 s byte e =
       ap length (w .whole),
       frame-length form (w .place) (readOf kb1 kb2 s .target) (readOf kb1 kb2 s .source) d,
       head-le form (w .place),
-      length-byte kb1 (w .place) (length d) (w .ready .placed),
+      length-byte kb1 (w .place) (length d) (w .announced .placed),
     )
 
 -- A SLICE THAT READS WELL ENDS IN ITS CHECKSUM
@@ -250,7 +250,7 @@ pub record IsFrame (kb1 kb2 : ℕ) (s : List ℕ) : Type 0 where
   pub target : ℕ
   pub source : ℕ
   pub bytes : List ℕ
-  pub ready : Announced kb1 kb2 form place (length bytes)
+  pub announced : Announced kb1 kb2 form place (length bytes)
   pub whole : s ≡ frameOf form place target source bytes
 
 pub reads-exactly : (kb1 kb2 : ℕ) (s : List ℕ) → ((i : ℕ) → getD s i 0 < 256) → (readOf kb1 kb2 s .no ≡ taken) ↔ IsFrame kb1 kb2 s
@@ -263,10 +263,10 @@ reads-exactly kb1 kb2 s byte = (
         target = readOf kb1 kb2 s .target;
         source = readOf kb1 kb2 s .source;
         bytes = dataOf kb1 kb2 s;
-        ready = w .ready;
+        announced = w .announced;
         whole = w .whole;
       },
   λ f.
       ap (λ (l : List ℕ). readOf kb1 kb2 l .no) (f .whole)
-      ∙ ap (λ (r : Reading). r .no) (frame-reads-back kb1 kb2 (f .form) (f .place) (f .target) (f .source) (f .bytes) (f .ready) .reading),
+      ∙ ap (λ (r : Reading). r .no) (frame-reads-back kb1 kb2 (f .form) (f .place) (f .target) (f .source) (f .bytes) (f .announced) .reading),
 )

@@ -7,7 +7,7 @@ use timing::Limit;
 use timing::Windows;
 use units::Micros;
 
-// The greater of two gaps that does not pass: low does not.
+// A gap, or so much more, where that does not pass either.
 fn higher(l: Limit, low: u64, step: u64) -> u64 {
     let gap = low % 268435456 + step % 268435456;
     if timing::passed(l, Micros(gap)) {
@@ -27,6 +27,7 @@ fn greatest_gap(l: Limit) -> u64 {
     low
 }
 
+// A digest with a window's end more.
 fn mix_limit(d: u32, l: Limit) -> u32 {
     if timing::is_unlimited(l) {
         return marks::mix(d, 77);
@@ -34,6 +35,7 @@ fn mix_limit(d: u32, l: Limit) -> u32 {
     marks::mix_wide(d, greatest_gap(l))
 }
 
+// A digest with windows more.
 fn mix_windows(d: u32, w: Windows) -> u32 {
     let p2 = w.p2max;
     let p3 = w.p3max;
@@ -44,6 +46,7 @@ fn mix_windows(d: u32, w: Windows) -> u32 {
     marks::mix_wide(e, w.p4min.0)
 }
 
+// Whether codes are the same.
 fn same_codes(a: Codes, b: Codes) -> bool {
     (a.p2min == b.p2min)
         & (a.p2max == b.p2max)
@@ -95,7 +98,7 @@ pub(crate) fn listed_codes(i: u32) -> Codes {
     codes((50 * k + i % 3 - 1) as u8, k as u8, 0x6E, 0x14, 0x0A)
 }
 
-// Five codes made up of a seed, many of them near those that are allowed.
+// Five codes made up of a seed, with P4 min below 64, so that about half of them are allowed.
 pub(crate) fn made_codes(seed: u32) -> Codes {
     let a = marks::next(seed);
     let b = marks::next(a);
