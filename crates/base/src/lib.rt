@@ -1,7 +1,18 @@
 // The numbers that a caller may get back, by name. What each means is said where it is given;
 // `specs/Numbers.antt` has the same table for the definitions.
 
+pub mod reason;
+pub mod report;
+
 pub const TAKEN: u8 = 0;
+
+pub const UNKNOWN: u8 = 1;
+
+pub const TOO_LATE: u8 = 2;
+
+pub const OUT_OF_ORDER: u8 = 3;
+
+pub const TOO_MANY: u8 = 4;
 
 pub const BAD_KEYS: u8 = 5;
 

@@ -3,7 +3,7 @@ use mathlib.Core.Path.{_≡_}
 use mathlib.Core.Bool.{Bool}
 use Prim.Native.Nat.{ℕ}
 use Rattle.base.proofs.One.{Only, only}
-use Rattle.units.specs.Units.{halfBy, step250By, byteOf, microsOfHalf, microsOf25, microsOf250, halfOf, steps25Of, steps250Of, isEarlier, isSame}
+use Rattle.units.specs.Units.{halfBy, step250By, byteOf, microsOfHalf, microsOf25, microsOf250, halfOf, steps25Of, steps250Of, isEarlier, isSame, gapOf}
 use Rattle.units.specs.declared.Micros.{Micros}
 use Rattle.units.specs.declared.HalfMs.{HalfMs}
 use Rattle.units.specs.declared.Step25.{Step25}
@@ -44,3 +44,6 @@ earlier a b = only (isEarlier a b)
 
 pub same : (a b : Micros) → Only (λ (r : Bool). r ≡ isSame a b)
 same a b = only (isSame a b)
+
+pub gap : (from to : Micros) → Only (λ (r : Micros). r ≡ gapOf from to)
+gap from to = only (gapOf from to)

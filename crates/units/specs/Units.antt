@@ -1,7 +1,7 @@
 -- Microseconds, and the steps of 0.5, 25 and 250 ms that timing codes count in (document 01, "Timing"; the resolutions of ISO 14230-2, tables 3 and 5).
 -- "Code steps and microseconds stay apart until this rule converts one into the other": this file is that rule, and the only one.
 -- Assumes nothing.
-use Prim.Native.Nat.{ℕ, _*_, _/_}
+use Prim.Native.Nat.{ℕ, _-_, _*_, _/_}
 use mathlib.Core.Bool.{Bool}
 use lib.Dec.{eqb, leb, ltb}
 use Rattle.base.specs.Choice.{if_then_else_}
@@ -63,3 +63,7 @@ isEarlier a b = ltb (a .0) (b .0)
 
 abbrev pub isSame : Micros → Micros → Bool
 isSame a b = eqb (a .0) (b .0)
+
+-- "Gaps run from the end of a byte to the start of the next, in microseconds": from one time to a later one, and 0 where it is not later
+abbrev pub gapOf : Micros → Micros → Micros
+gapOf from to = micros (to .0 - from .0)
