@@ -1,0 +1,273 @@
+-- The two initializations (document 01, "Slow." and "Fast."; ISO 14230-2, clauses 5.2.4.2 and 5.2.4.3), as the stages that each goes through. What is expected
+-- of the next byte is told by the stage: who sends it, how early and how late it may start, and which values fit.
+-- Assumes nothing.
+use Prim.Native.Nat.{ℕ, _-_}
+use mathlib.Core.Bool.{Bool, true, false, not, _&&_, _||_}
+use lib.Dec.{eqb}
+use Rattle.base.specs.Choice.{if_then_else_}
+use Rattle.base.specs.Sums.{byteSum}
+use Rattle.base.specs.Reports.{noReason, wrongSide, tooEarly, misfit}
+use Rattle.units.specs.Units.{micros, isEarlier}
+use Rattle.units.specs.declared.Micros.{Micros}
+use Rattle.keys.specs.Keys.{goodPair}
+use Rattle.events.specs.Events.{sameSide}
+use Rattle.events.specs.declared.Side.{Side}
+use Rattle.events.specs.declared.Side.the-variants.{Tester, Unit}
+use Rattle.starts.specs.declared.Stage.{Stage}
+use Rattle.starts.specs.declared.Stage.the-variants.{Sync, FirstKey, SecondKey, KeyBack, AddressBack}
+use Rattle.starts.specs.declared.Stage.the-variants.{AskFormat, AskTarget, AskSource, AskService, AskSum}
+use Rattle.starts.specs.declared.Stage.the-variants.{Format, Target, Source, LongTarget, LongSource, Length, Service, KeyOne, KeyTwo, Sum}
+use Rattle.starts.specs.declared.Due.{Due}
+use Rattle.starts.specs.declared.Start.{Start}
+
+-- ---- what is expected of the next byte: from whom, and how long after
+-- "Slow. From the address: unit 55 after 60 to 300 ms; KB1 after 5 to 20; KB2 after 0 to 20, pair good; tester 255 minus KB2 after 25 to 50; unit
+-- 255 minus address after 25 to 50."
+-- "Fast. .. Tester's first byte starts 49 to 51 ms after the fall. The request is 81 or C1, target, source, 81, checksum; gaps up to 20 ms. The
+-- reply starts 25 to 50 ms later, gaps up to 20 ms, any of the four layouts in mode 00 or 10, data C1 KB1 KB2, pair good."
+abbrev pub due : Side → ℕ → ℕ → Due
+due side earliest latest = record { earliest = micros earliest; latest = micros latest; side = side }
+
+unfoldable pub dueAt : Stage → Due
+dueAt Sync = due Unit 60_000 300_000
+dueAt FirstKey = due Unit 5_000 20_000
+dueAt SecondKey = due Unit 0 20_000
+dueAt KeyBack = due Tester 25_000 50_000
+dueAt AddressBack = due Unit 25_000 50_000
+dueAt AskFormat = due Tester 49_000 51_000
+dueAt AskTarget = due Tester 0 20_000
+dueAt AskSource = due Tester 0 20_000
+dueAt AskService = due Tester 0 20_000
+dueAt AskSum = due Tester 0 20_000
+dueAt Format = due Unit 25_000 50_000
+dueAt Target = due Unit 0 20_000
+dueAt Source = due Unit 0 20_000
+dueAt LongTarget = due Unit 0 20_000
+dueAt LongSource = due Unit 0 20_000
+dueAt Length = due Unit 0 20_000
+dueAt Service = due Unit 0 20_000
+dueAt KeyOne = due Unit 0 20_000
+dueAt KeyTwo = due Unit 0 20_000
+dueAt Sum = due Unit 0 20_000
+
+-- Where the time runs from: the tester's first byte is timed from the fall of the wake-up, every other one from the mark.
+unfoldable pub isAskFormat : Stage → Bool
+isAskFormat Sync = false
+isAskFormat FirstKey = false
+isAskFormat SecondKey = false
+isAskFormat KeyBack = false
+isAskFormat AddressBack = false
+isAskFormat AskFormat = true
+isAskFormat AskTarget = false
+isAskFormat AskSource = false
+isAskFormat AskService = false
+isAskFormat AskSum = false
+isAskFormat Format = false
+isAskFormat Target = false
+isAskFormat Source = false
+isAskFormat LongTarget = false
+isAskFormat LongSource = false
+isAskFormat Length = false
+isAskFormat Service = false
+isAskFormat KeyOne = false
+isAskFormat KeyTwo = false
+isAskFormat Sum = false
+
+unfoldable pub originOf : Stage → Micros → Micros → Micros
+originOf stage fall mark = if isAskFormat stage then fall else mark
+
+-- ---- which values fit
+-- "255 minus KB2", "255 minus address"
+unfoldable pub complement : ℕ → ℕ
+complement x = 255 - x
+
+-- "any of the four layouts in mode 00 or 10" of three data bytes: with target and source or not, the length in the format byte or behind it
+unfoldable pub isReplyFormat : ℕ → Bool
+isReplyFormat v = eqb v 0x03 || eqb v 0x00 || eqb v 0x83 || eqb v 0x80
+
+-- "Each byte is judged as it comes, but checksum and pair both at the checksum byte." "Layout isn't checked against KB1 here, and the addresses may
+-- be any." KB1 of a slow start is judged with KB2.
+abbrev pub fitsAt : Stage → Start → ℕ → Bool
+fitsAt Sync s v = eqb v 0x55
+fitsAt FirstKey s v = true
+fitsAt SecondKey s v = goodPair (s .kb1) v
+fitsAt KeyBack s v = eqb v (complement (s .kb2))
+fitsAt AddressBack s v = eqb v (complement (s .address))
+fitsAt AskFormat s v = (eqb v 0x81 || eqb v 0xC1)
+fitsAt AskTarget s v = true
+fitsAt AskSource s v = true
+fitsAt AskService s v = eqb v 0x81
+fitsAt AskSum s v = eqb v (s .sum)
+fitsAt Format s v = isReplyFormat v
+fitsAt Target s v = true
+fitsAt Source s v = true
+fitsAt LongTarget s v = true
+fitsAt LongSource s v = true
+fitsAt Length s v = eqb v 0x03
+fitsAt Service s v = eqb v 0xC1
+fitsAt KeyOne s v = true
+fitsAt KeyTwo s v = true
+fitsAt Sum s v = (eqb v (s .sum) && goodPair (s .kb1) (s .kb2))
+
+unfoldable pub fits : Start → ℕ → Bool
+fits s v = fitsAt (s .stage) s v
+
+-- ---- judging a byte, for both
+-- "Check side (reason 4), early (5), value or structure (6), in that order; key pair and checksum belong to 6."
+unfoldable pub isFrom : Start → Side → Bool
+isFrom s side = sameSide side (dueAt (s .stage) .side)
+
+unfoldable pub isEarly : Start → Micros → Bool
+isEarly s gap = isEarlier gap (dueAt (s .stage) .earliest)
+
+unfoldable pub judged : Start → Side → ℕ → Micros → ℕ
+judged s side v gap =
+    if not (isFrom s side) then wrongSide else
+    if isEarly s gap then tooEarly else
+    if fits s v then noReason else misfit
+
+-- and late: "In initialization, the present window's end passed"
+unfoldable pub isOver : Start → Micros → Bool
+isOver s gap = isEarlier (dueAt (s .stage) .latest) gap
+
+-- ---- from a byte that fits to the next one
+-- the four layouts of the reply: 83 has target and source, 80 these and a length byte, 00 a length byte, 03 neither
+unfoldable pub afterFormat : ℕ → Stage
+afterFormat v =
+    if eqb v 0x83 then Target else
+    if eqb v 0x80 then LongTarget else
+    if eqb v 0x00 then Length else Service
+
+unfoldable pub nextStage : Stage → ℕ → Stage
+nextStage Sync v = FirstKey
+nextStage FirstKey v = SecondKey
+nextStage SecondKey v = KeyBack
+nextStage KeyBack v = AddressBack
+nextStage AddressBack v = AddressBack
+nextStage AskFormat v = AskTarget
+nextStage AskTarget v = AskSource
+nextStage AskSource v = AskService
+nextStage AskService v = AskSum
+nextStage AskSum v = Format
+nextStage Format v = afterFormat v
+nextStage Target v = Source
+nextStage Source v = Service
+nextStage LongTarget v = LongSource
+nextStage LongSource v = Length
+nextStage Length v = Service
+nextStage Service v = KeyOne
+nextStage KeyOne v = KeyTwo
+nextStage KeyTwo v = Sum
+nextStage Sum v = Sum
+
+-- the stages whose byte is the initialization's last, KB1, KB2, and the request's checksum
+unfoldable pub isLast : Stage → Bool
+isLast Sync = false
+isLast FirstKey = false
+isLast SecondKey = false
+isLast KeyBack = false
+isLast AddressBack = true
+isLast AskFormat = false
+isLast AskTarget = false
+isLast AskSource = false
+isLast AskService = false
+isLast AskSum = false
+isLast Format = false
+isLast Target = false
+isLast Source = false
+isLast LongTarget = false
+isLast LongSource = false
+isLast Length = false
+isLast Service = false
+isLast KeyOne = false
+isLast KeyTwo = false
+isLast Sum = true
+
+unfoldable pub isKeyOne : Stage → Bool
+isKeyOne Sync = false
+isKeyOne FirstKey = true
+isKeyOne SecondKey = false
+isKeyOne KeyBack = false
+isKeyOne AddressBack = false
+isKeyOne AskFormat = false
+isKeyOne AskTarget = false
+isKeyOne AskSource = false
+isKeyOne AskService = false
+isKeyOne AskSum = false
+isKeyOne Format = false
+isKeyOne Target = false
+isKeyOne Source = false
+isKeyOne LongTarget = false
+isKeyOne LongSource = false
+isKeyOne Length = false
+isKeyOne Service = false
+isKeyOne KeyOne = true
+isKeyOne KeyTwo = false
+isKeyOne Sum = false
+
+unfoldable pub isKeyTwo : Stage → Bool
+isKeyTwo Sync = false
+isKeyTwo FirstKey = false
+isKeyTwo SecondKey = true
+isKeyTwo KeyBack = false
+isKeyTwo AddressBack = false
+isKeyTwo AskFormat = false
+isKeyTwo AskTarget = false
+isKeyTwo AskSource = false
+isKeyTwo AskService = false
+isKeyTwo AskSum = false
+isKeyTwo Format = false
+isKeyTwo Target = false
+isKeyTwo Source = false
+isKeyTwo LongTarget = false
+isKeyTwo LongSource = false
+isKeyTwo Length = false
+isKeyTwo Service = false
+isKeyTwo KeyOne = false
+isKeyTwo KeyTwo = true
+isKeyTwo Sum = false
+
+unfoldable pub isAskSum : Stage → Bool
+isAskSum Sync = false
+isAskSum FirstKey = false
+isAskSum SecondKey = false
+isAskSum KeyBack = false
+isAskSum AddressBack = false
+isAskSum AskFormat = false
+isAskSum AskTarget = false
+isAskSum AskSource = false
+isAskSum AskService = false
+isAskSum AskSum = true
+isAskSum Format = false
+isAskSum Target = false
+isAskSum Source = false
+isAskSum LongTarget = false
+isAskSum LongSource = false
+isAskSum Length = false
+isAskSum Service = false
+isAskSum KeyOne = false
+isAskSum KeyTwo = false
+isAskSum Sum = false
+
+-- the sum of the request's bytes, and behind its checksum of the reply's
+unfoldable pub sumAfter : Start → ℕ → ℕ
+sumAfter s v = if isAskSum (s .stage) then 0 else byteSum (s .sum) v
+
+unfoldable pub onward : Start → ℕ → Start
+onward s v = record {
+  stage = nextStage (s .stage) v;
+  address = s .address;
+  sum = sumAfter s v;
+  kb1 = if isKeyOne (s .stage) then v else s .kb1;
+  kb2 = if isKeyTwo (s .stage) then v else s .kb2;
+}
+
+-- ---- how they begin: none, a slow one from its address, a fast one
+unfoldable pub noStart : Start
+noStart = record { stage = Sync; address = 0; sum = 0; kb1 = 0; kb2 = 0 }
+
+unfoldable pub slowStart : ℕ → Start
+slowStart address = record { stage = Sync; address = address; sum = 0; kb1 = 0; kb2 = 0 }
+
+unfoldable pub fastStart : Start
+fastStart = record { stage = AskFormat; address = 0; sum = 0; kb1 = 0; kb2 = 0 }

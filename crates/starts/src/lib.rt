@@ -1,0 +1,438 @@
+// The two initializations, as the stages that each goes through.
+ghost use mathlib.Core.Path.{_≡_};
+ghost use Rattle.starts.specs.Starts.{due, dueAt, isAskFormat, originOf, complement, isReplyFormat, fits};
+ghost use Rattle.starts.specs.Starts.{isFrom, isEarly, judged, isOver};
+ghost use Rattle.starts.specs.Starts.{afterFormat, nextStage, isLast, isKeyOne, isKeyTwo, isAskSum, sumAfter, onward};
+ghost use Rattle.starts.specs.Starts.{noStart, slowStart, fastStart};
+
+use events::Side;
+use units::Micros;
+
+// The byte that is due next.
+pub enum Stage {
+    // the slow start: 55, KB1, KB2, the tester's answer, the unit's
+    Sync,
+    FirstKey,
+    SecondKey,
+    KeyBack,
+    AddressBack,
+    // the fast start's request: format, target, source, 81, checksum
+    AskFormat,
+    AskTarget,
+    AskSource,
+    AskService,
+    AskSum,
+    // its reply: format, target and source (and then a length byte), length byte, C1, KB1, KB2, checksum
+    Format,
+    Target,
+    Source,
+    LongTarget,
+    LongSource,
+    Length,
+    Service,
+    KeyOne,
+    KeyTwo,
+    Sum,
+}
+
+// What is expected of a byte: the window in which it starts, and its side.
+struct Due {
+    earliest: Micros,
+    latest: Micros,
+    side: Side,
+}
+
+// How far an initialization has come: the stage, the address of a slow one, the sum of a fast one's
+// bytes so far, and its key bytes as far as they have come.
+pub struct Start {
+    pub stage: Stage,
+    pub address: u8,
+    pub sum: u8,
+    pub kb1: u8,
+    pub kb2: u8,
+}
+
+// A byte of a side, in a window.
+fn due_from(side: Side, earliest: u64, latest: u64) -> Due
+    ensures { λ r. ⌜ r ≡ due side earliest latest ⌝ }
+{
+    Due {
+        earliest: Micros(earliest),
+        latest: Micros(latest),
+        side: side,
+    }
+}
+
+// What is expected of a stage's byte.
+fn due_at(stage: Stage) -> Due
+    ensures { λ r. ⌜ r ≡ dueAt stage ⌝ }
+{
+    match stage {
+        Stage::Sync => due_from(Side::Unit, 60_000, 300_000),
+        Stage::FirstKey => due_from(Side::Unit, 5_000, 20_000),
+        Stage::SecondKey => due_from(Side::Unit, 0, 20_000),
+        Stage::KeyBack => due_from(Side::Tester, 25_000, 50_000),
+        Stage::AddressBack => due_from(Side::Unit, 25_000, 50_000),
+        Stage::AskFormat => due_from(Side::Tester, 49_000, 51_000),
+        Stage::AskTarget => due_from(Side::Tester, 0, 20_000),
+        Stage::AskSource => due_from(Side::Tester, 0, 20_000),
+        Stage::AskService => due_from(Side::Tester, 0, 20_000),
+        Stage::AskSum => due_from(Side::Tester, 0, 20_000),
+        Stage::Format => due_from(Side::Unit, 25_000, 50_000),
+        Stage::Target => due_from(Side::Unit, 0, 20_000),
+        Stage::Source => due_from(Side::Unit, 0, 20_000),
+        Stage::LongTarget => due_from(Side::Unit, 0, 20_000),
+        Stage::LongSource => due_from(Side::Unit, 0, 20_000),
+        Stage::Length => due_from(Side::Unit, 0, 20_000),
+        Stage::Service => due_from(Side::Unit, 0, 20_000),
+        Stage::KeyOne => due_from(Side::Unit, 0, 20_000),
+        Stage::KeyTwo => due_from(Side::Unit, 0, 20_000),
+        Stage::Sum => due_from(Side::Unit, 0, 20_000),
+    }
+}
+
+// Whether a stage's byte is the tester's first.
+fn is_ask_format(stage: Stage) -> bool
+    ensures { λ r. ⌜ r ≡ isAskFormat stage ⌝ }
+{
+    match stage {
+        Stage::Sync => false,
+        Stage::FirstKey => false,
+        Stage::SecondKey => false,
+        Stage::KeyBack => false,
+        Stage::AddressBack => false,
+        Stage::AskFormat => true,
+        Stage::AskTarget => false,
+        Stage::AskSource => false,
+        Stage::AskService => false,
+        Stage::AskSum => false,
+        Stage::Format => false,
+        Stage::Target => false,
+        Stage::Source => false,
+        Stage::LongTarget => false,
+        Stage::LongSource => false,
+        Stage::Length => false,
+        Stage::Service => false,
+        Stage::KeyOne => false,
+        Stage::KeyTwo => false,
+        Stage::Sum => false,
+    }
+}
+
+// Where the time of a stage's byte runs from.
+pub fn origin(stage: Stage, fall: Micros, mark: Micros) -> Micros
+    ensures { λ r. ⌜ r ≡ originOf stage fall mark ⌝ }
+{
+    if is_ask_format(stage) {
+        return fall;
+    }
+    mark
+}
+
+// 255 minus a byte.
+pub fn inverse(x: u8) -> u8
+    ensures { λ r. ⌜ r ≡ complement x ⌝ }
+{
+    255 - x
+}
+
+// Whether a byte is the format byte of a fast start's reply.
+fn is_reply_format(v: u8) -> bool
+    ensures { λ r. ⌜ r ≡ isReplyFormat v ⌝ }
+{
+    (v == 0x03) | (v == 0x00) | (v == 0x83) | (v == 0x80)
+}
+
+// Whether a byte's value fits.
+fn is_fitting(s: Start, v: u8) -> bool
+    ensures { λ r. ⌜ r ≡ fits s v ⌝ }
+{
+    let stage = s.stage;
+    match stage {
+        Stage::Sync => v == 0x55,
+        Stage::FirstKey => true,
+        Stage::SecondKey => keys::good_pair(s.kb1, v),
+        Stage::KeyBack => v == inverse(s.kb2),
+        Stage::AddressBack => v == inverse(s.address),
+        Stage::AskFormat => (v == 0x81) | (v == 0xC1),
+        Stage::AskTarget => true,
+        Stage::AskSource => true,
+        Stage::AskService => v == 0x81,
+        Stage::AskSum => v == s.sum,
+        Stage::Format => is_reply_format(v),
+        Stage::Target => true,
+        Stage::Source => true,
+        Stage::LongTarget => true,
+        Stage::LongSource => true,
+        Stage::Length => v == 0x03,
+        Stage::Service => v == 0xC1,
+        Stage::KeyOne => true,
+        Stage::KeyTwo => true,
+        Stage::Sum => (v == s.sum) & keys::good_pair(s.kb1, s.kb2),
+    }
+}
+
+// Whether a byte comes from the side that is due.
+fn is_from(s: Start, side: Side) -> bool
+    ensures { λ r. ⌜ r ≡ isFrom s side ⌝ }
+{
+    let stage = s.stage;
+    let d = due_at(stage);
+    let from = d.side;
+    events::same_side(side, from)
+}
+
+// Whether a byte that comes so long after its origin is early.
+fn is_early(s: Start, gap: Micros) -> bool
+    ensures { λ r. ⌜ r ≡ isEarly s gap ⌝ }
+{
+    let stage = s.stage;
+    let d = due_at(stage);
+    units::earlier(gap, d.earliest)
+}
+
+// Judges a byte that comes so long after its origin: the reason it fails for, or 0.
+pub fn judge(s: Start, side: Side, v: u8, gap: Micros) -> u8
+    ensures { λ r. ⌜ r ≡ judged s side v gap ⌝ }
+{
+    let from = is_from(s, side);
+    if !from {
+        return base::reason::WRONG_SIDE;
+    }
+    if is_early(s, gap) {
+        return base::reason::TOO_EARLY;
+    }
+    if is_fitting(s, v) {
+        return base::reason::NONE;
+    }
+    base::reason::MISFIT
+}
+
+// Whether the end of the present window has passed, so long after its origin.
+pub fn is_past(s: Start, gap: Micros) -> bool
+    ensures { λ r. ⌜ r ≡ isOver s gap ⌝ }
+{
+    let stage = s.stage;
+    let d = due_at(stage);
+    units::earlier(d.latest, gap)
+}
+
+// The stage behind the reply's format byte.
+fn after_format(v: u8) -> Stage
+    ensures { λ r. ⌜ r ≡ afterFormat v ⌝ }
+{
+    if v == 0x83 {
+        return Stage::Target;
+    }
+    if v == 0x80 {
+        return Stage::LongTarget;
+    }
+    if v == 0x00 {
+        return Stage::Length;
+    }
+    Stage::Service
+}
+
+// The stage behind one whose byte fits.
+fn next_stage(stage: Stage, v: u8) -> Stage
+    ensures { λ r. ⌜ r ≡ nextStage stage v ⌝ }
+{
+    match stage {
+        Stage::Sync => Stage::FirstKey,
+        Stage::FirstKey => Stage::SecondKey,
+        Stage::SecondKey => Stage::KeyBack,
+        Stage::KeyBack => Stage::AddressBack,
+        Stage::AddressBack => Stage::AddressBack,
+        Stage::AskFormat => Stage::AskTarget,
+        Stage::AskTarget => Stage::AskSource,
+        Stage::AskSource => Stage::AskService,
+        Stage::AskService => Stage::AskSum,
+        Stage::AskSum => Stage::Format,
+        Stage::Format => after_format(v),
+        Stage::Target => Stage::Source,
+        Stage::Source => Stage::Service,
+        Stage::LongTarget => Stage::LongSource,
+        Stage::LongSource => Stage::Length,
+        Stage::Length => Stage::Service,
+        Stage::Service => Stage::KeyOne,
+        Stage::KeyOne => Stage::KeyTwo,
+        Stage::KeyTwo => Stage::Sum,
+        Stage::Sum => Stage::Sum,
+    }
+}
+
+// Whether a stage's byte is the last of its initialization.
+pub fn is_last(stage: Stage) -> bool
+    ensures { λ r. ⌜ r ≡ isLast stage ⌝ }
+{
+    match stage {
+        Stage::Sync => false,
+        Stage::FirstKey => false,
+        Stage::SecondKey => false,
+        Stage::KeyBack => false,
+        Stage::AddressBack => true,
+        Stage::AskFormat => false,
+        Stage::AskTarget => false,
+        Stage::AskSource => false,
+        Stage::AskService => false,
+        Stage::AskSum => false,
+        Stage::Format => false,
+        Stage::Target => false,
+        Stage::Source => false,
+        Stage::LongTarget => false,
+        Stage::LongSource => false,
+        Stage::Length => false,
+        Stage::Service => false,
+        Stage::KeyOne => false,
+        Stage::KeyTwo => false,
+        Stage::Sum => true,
+    }
+}
+
+// Whether a stage's byte is KB1.
+fn is_key_one(stage: Stage) -> bool
+    ensures { λ r. ⌜ r ≡ isKeyOne stage ⌝ }
+{
+    match stage {
+        Stage::Sync => false,
+        Stage::FirstKey => true,
+        Stage::SecondKey => false,
+        Stage::KeyBack => false,
+        Stage::AddressBack => false,
+        Stage::AskFormat => false,
+        Stage::AskTarget => false,
+        Stage::AskSource => false,
+        Stage::AskService => false,
+        Stage::AskSum => false,
+        Stage::Format => false,
+        Stage::Target => false,
+        Stage::Source => false,
+        Stage::LongTarget => false,
+        Stage::LongSource => false,
+        Stage::Length => false,
+        Stage::Service => false,
+        Stage::KeyOne => true,
+        Stage::KeyTwo => false,
+        Stage::Sum => false,
+    }
+}
+
+// Whether a stage's byte is KB2.
+fn is_key_two(stage: Stage) -> bool
+    ensures { λ r. ⌜ r ≡ isKeyTwo stage ⌝ }
+{
+    match stage {
+        Stage::Sync => false,
+        Stage::FirstKey => false,
+        Stage::SecondKey => true,
+        Stage::KeyBack => false,
+        Stage::AddressBack => false,
+        Stage::AskFormat => false,
+        Stage::AskTarget => false,
+        Stage::AskSource => false,
+        Stage::AskService => false,
+        Stage::AskSum => false,
+        Stage::Format => false,
+        Stage::Target => false,
+        Stage::Source => false,
+        Stage::LongTarget => false,
+        Stage::LongSource => false,
+        Stage::Length => false,
+        Stage::Service => false,
+        Stage::KeyOne => false,
+        Stage::KeyTwo => true,
+        Stage::Sum => false,
+    }
+}
+
+// Whether a stage's byte is the request's checksum.
+fn is_ask_sum(stage: Stage) -> bool
+    ensures { λ r. ⌜ r ≡ isAskSum stage ⌝ }
+{
+    match stage {
+        Stage::Sync => false,
+        Stage::FirstKey => false,
+        Stage::SecondKey => false,
+        Stage::KeyBack => false,
+        Stage::AddressBack => false,
+        Stage::AskFormat => false,
+        Stage::AskTarget => false,
+        Stage::AskSource => false,
+        Stage::AskService => false,
+        Stage::AskSum => true,
+        Stage::Format => false,
+        Stage::Target => false,
+        Stage::Source => false,
+        Stage::LongTarget => false,
+        Stage::LongSource => false,
+        Stage::Length => false,
+        Stage::Service => false,
+        Stage::KeyOne => false,
+        Stage::KeyTwo => false,
+        Stage::Sum => false,
+    }
+}
+
+// The sum behind a byte.
+fn sum_after(s: Start, v: u8) -> u8
+    ensures { λ r. ⌜ r ≡ sumAfter s v ⌝ }
+{
+    let stage = s.stage;
+    if is_ask_sum(stage) {
+        return 0;
+    }
+    base::byte_sum(s.sum, v)
+}
+
+// The initialization behind a byte that fits.
+pub fn go_onward(s: Start, v: u8) -> Start
+    ensures { λ r. ⌜ r ≡ onward s v ⌝ }
+{
+    let stage = s.stage;
+    Start {
+        stage: next_stage(stage, v),
+        address: s.address,
+        sum: sum_after(s, v),
+        kb1: base::either(is_key_one(stage), v, s.kb1),
+        kb2: base::either(is_key_two(stage), v, s.kb2),
+    }
+}
+
+// No initialization.
+pub fn none() -> Start
+    ensures { λ r. ⌜ r ≡ noStart ⌝ }
+{
+    Start {
+        stage: Stage::Sync,
+        address: 0,
+        sum: 0,
+        kb1: 0,
+        kb2: 0,
+    }
+}
+
+// A slow initialization, just after its address.
+pub fn slow(address: u8) -> Start
+    ensures { λ r. ⌜ r ≡ slowStart address ⌝ }
+{
+    Start {
+        stage: Stage::Sync,
+        address: address,
+        sum: 0,
+        kb1: 0,
+        kb2: 0,
+    }
+}
+
+// A fast initialization, just after its wake-up.
+pub fn fast() -> Start
+    ensures { λ r. ⌜ r ≡ fastStart ⌝ }
+{
+    Start {
+        stage: Stage::AskFormat,
+        address: 0,
+        sum: 0,
+        kb1: 0,
+        kb2: 0,
+    }
+}
