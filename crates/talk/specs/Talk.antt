@@ -224,15 +224,15 @@ unfoldable pub ifAllowed : Decoded → Windows → Windows
 ifAllowed d w = if eqb (d .no) taken then d .windows else w
 
 -- the windows when a request takes effect: "KB1's set", or those codes
-unfoldable pub windowsBy : Request → ℕ → ℕ → Windows → Windows
-windowsBy Ordinary kb1 seven w = w
-windowsBy Stop kb1 seven w = w
-windowsBy NormalTiming kb1 seven w = setOf kb1
-windowsBy NewTiming kb1 seven w = ifAllowed (decodedOf (codesIn seven)) w
-windowsBy Stopped kb1 seven w = w
+unfoldable pub windowsFor : Request → ℕ → ℕ → Windows → Windows
+windowsFor Ordinary kb1 seven w = w
+windowsFor Stop kb1 seven w = w
+windowsFor NormalTiming kb1 seven w = setOf kb1
+windowsFor NewTiming kb1 seven w = ifAllowed (decodedOf (codesIn seven)) w
+windowsFor Stopped kb1 seven w = w
 
 unfoldable pub windowsAfter : Request → Message → ℕ → ℕ → Windows → Windows
-windowsAfter request m kb1 seven w = if isEffective request m then windowsBy request kb1 seven w else w
+windowsAfter request m kb1 seven w = if isEffective request m then windowsFor request kb1 seven w else w
 
 -- "Each takes effect once for its request."
 unfoldable pub spent : Request → Request

@@ -4,7 +4,7 @@ ghost use Rattle.talk.specs.Talk.{isNever, isFirst, testerTurn, isStray,
 ghost use Rattle.talk.specs.Talk.{isModeOne, hasExtra, placeAnnounced, headReason, firstReason};
 ghost use Rattle.talk.specs.Talk.{afterAddresses, partAfterFormat, begun, partReason, laterReason, isSum};
 ghost use Rattle.talk.specs.Talk.{withSeven, afterData, withPart, withLength, withData, grown};
-ghost use Rattle.talk.specs.Talk.{isExactly, asksCodes, requestOf, isEffective, codesIn, ifAllowed, windowsBy, windowsAfter};
+ghost use Rattle.talk.specs.Talk.{isExactly, asksCodes, requestOf, isEffective, codesIn, ifAllowed, windowsFor, windowsAfter};
 ghost use Rattle.talk.specs.Talk.{spent, requestAfter, isStopped};
 
 use events::Side;
@@ -414,8 +414,8 @@ fn if_allowed(d: Decoded, w: Windows) -> Windows
 }
 
 // The windows when a request takes effect.
-fn windows_by(request: Request, kb1: u8, seven: u64, w: Windows) -> Windows
-    ensures { λ r. ⌜ r ≡ windowsBy request kb1 seven w ⌝ }
+fn windows_for(request: Request, kb1: u8, seven: u64, w: Windows) -> Windows
+    ensures { λ r. ⌜ r ≡ windowsFor request kb1 seven w ⌝ }
 {
     match request {
         Request::Ordinary => w,
@@ -431,7 +431,7 @@ pub fn windows_after(request: Request, m: Message, kb1: u8, seven: u64, w: Windo
     ensures { λ r. ⌜ r ≡ windowsAfter request m kb1 seven w ⌝ }
 {
     if is_effective(request, m) {
-        return windows_by(request, kb1, seven, w);
+        return windows_for(request, kb1, seven, w);
     }
     w
 }

@@ -1,0 +1,17 @@
+-- `talk::first_reason` meets its contract: at each return, the tests and matches on the way there pick the case of the definition.
+-- Assumes nothing.
+use borrow.Author.Needs.{needs}
+use borrow.Author.Tests.{eq-eqb, ne-eqb}
+use Rattle.talk.specs.Talk.{firstReason}
+use Rattle.talk.proofs.first_reason.Statement.{statement}
+use Rattle.talk.proofs.first_reason.Tie as tie
+
+pub first-reason-spec : {M : Type 1} → statement M
+unfolding firstReason
+first-reason-spec =
+    tie.close
+    (tie.spec
+    (λ c κs. search needs)
+    (λ c κs. search needs)
+    (λ c. rw (c .head-reason .ensures, ← (c .before .before .turn-reason .ensures), eq-eqb _ _ (c .before .if1 .taken)))
+    (λ c. rw (← (c .before .turn-reason .ensures), ne-eqb _ _ (c .if1 .left))))

@@ -1,0 +1,18 @@
+-- `talk::is_first` meets its contract: at each return, the tests and matches on the way there pick the case of the definition.
+-- Assumes nothing.
+use borrow.Author.Needs.{needs}
+use Rattle.talk.specs.Talk.{isFirst}
+use Rattle.talk.proofs.is_first.Statement.{statement}
+use Rattle.talk.proofs.is_first.Tie as tie
+
+pub is-first-spec : {M : Type 1} → statement M
+unfolding isFirst
+is-first-spec =
+    tie.close
+    (tie.spec
+    (λ c. search needs)
+    (λ c. search needs)
+    (λ c. search needs)
+    (λ c. rw (c .enum-told .given .1))
+    (λ c. rw (c .enum-told2 .given .1))
+    (λ c. rw (c .enum-told3 .given .1)))

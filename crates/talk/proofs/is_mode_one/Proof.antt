@@ -1,0 +1,20 @@
+-- `talk::is_mode_one` meets its contract: at each return, the tests and matches on the way there pick the case of the definition.
+-- Assumes nothing.
+use borrow.Author.Needs.{needs}
+use Rattle.talk.specs.Talk.{isModeOne}
+use Rattle.talk.proofs.is_mode_one.Statement.{statement}
+use Rattle.talk.proofs.is_mode_one.Tie as tie
+
+pub is-mode-one-spec : {M : Type 1} → statement M
+unfolding isModeOne
+is-mode-one-spec =
+    tie.close
+    (tie.spec
+    (λ c. search needs)
+    (λ c. search needs)
+    (λ c. search needs)
+    (λ c. search needs)
+    (λ c. rw (c .enum-told .given .1))
+    (λ c. rw (c .enum-told2 .given .1))
+    (λ c. rw (c .enum-told3 .given .1))
+    (λ c. rw (c .enum-told4 .given .1)))
