@@ -126,6 +126,14 @@ isSum Length = false
 isSum Data = false
 isSum Sum = true
 
+-- the byte that comes is neither the length byte nor the checksum, and so any value will do
+unfoldable pub isInside : Part → Bool
+isInside Target = true
+isInside Source = true
+isInside Length = false
+isInside Data = true
+isInside Sum = false
+
 -- the first seven data bytes as one number, the first byte in front: with v as the data byte at an index
 unfoldable pub withSeven : ℕ → ℕ → ℕ → ℕ
 withSeven seven at v = if ltb at 7 then seven % 281_474_976_710_656 * 256 + v else seven

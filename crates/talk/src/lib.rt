@@ -2,7 +2,7 @@
 ghost use mathlib.Core.Path.{_≡_};
 ghost use Rattle.talk.specs.Talk.{isNever, isFirst, testerTurn, isStray, isHasty, unitTurn, turnReason};
 ghost use Rattle.talk.specs.Talk.{isModeOne, hasExtra, placeAnnounced, headReason, firstReason};
-ghost use Rattle.talk.specs.Talk.{afterAddresses, partAfterFormat, begun, partReason, laterReason, isSum};
+ghost use Rattle.talk.specs.Talk.{afterAddresses, partAfterFormat, begun, partReason, laterReason, isSum, isInside};
 ghost use Rattle.talk.specs.Talk.{withSeven, afterData, withPart, withLength, withData, grown};
 ghost use Rattle.talk.specs.Talk.{isExactly, asksCodes, requestOf, isEffective, codesIn, ifAllowed, windowsFor, windowsAfter};
 ghost use Rattle.talk.specs.Talk.{spent, requestAfter, isStopped};
@@ -255,6 +255,19 @@ pub fn is_sum(part: Part) -> bool
         Part::Length => false,
         Part::Data => false,
         Part::Sum => true,
+    }
+}
+
+// Whether a message's next byte may have any value.
+pub fn is_inside(part: Part) -> bool
+    ensures { λ r. ⌜ r ≡ isInside part ⌝ }
+{
+    match part {
+        Part::Target => true,
+        Part::Source => true,
+        Part::Length => false,
+        Part::Data => true,
+        Part::Sum => false,
     }
 }
 

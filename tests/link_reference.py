@@ -1,0 +1,497 @@
+#!/usr/bin/env python3
+"""Works out what the link must report, from the rules and not from this repository's definitions, over made-up event lists.
+
+The rules are document 01's, "Events and what the link does". They are written here a second time, in other terms: an initialization is a script that says
+what comes next, a message is the list of its bytes, and a frame is judged by tests/reference.py once all of it is there.
+Use: tests/link_reference.py events > crates/replay/stdin
+     tests/link_reference.py reports > crates/replay/stdout
+"""
+
+import struct
+import sys
+
+from reference import EXTENDED, NO_LIMIT, NORMAL, bits, decode, forms_taken, is_good, read
+
+MOST = 4_000_000_000
+LATEST = 4_000_000_000_000
+MS = 1000
+
+
+def slow(address):
+    """Yields side, earliest, latest and a test of the value, and is sent the value; ends in the key bytes."""
+    yield "e", 60 * MS, 300 * MS, lambda v: v == 0x55
+    kb1 = yield "e", 5 * MS, 20 * MS, lambda v: True
+    kb2 = yield "e", 0, 20 * MS, lambda v: is_good(kb1, v)
+    yield "t", 25 * MS, 50 * MS, lambda v: v + kb2 == 255
+    yield "e", 25 * MS, 50 * MS, lambda v: v + address == 255
+    return kb1, kb2
+
+
+def fast():
+    def within(side, test=lambda v: True):
+        return side, 0, 20 * MS, test
+
+    request = [(yield "t", 49 * MS, 51 * MS, lambda v: v in (0x81, 0xC1))]
+    request.append((yield within("t")))
+    request.append((yield within("t")))
+    request.append((yield within("t", lambda v: v == 0x81)))
+    yield within("t", lambda v: v == sum(request) % 256)
+    reply = [(yield "e", 25 * MS, 50 * MS, lambda v: v in (0x03, 0x00, 0x83, 0x80))]
+    if reply[0] >= 0x80:
+        reply.append((yield within("e")))
+        reply.append((yield within("e")))
+    if reply[0] % 0x80 == 0:
+        reply.append((yield within("e", lambda v: v == 3)))
+    reply.append((yield within("e", lambda v: v == 0xC1)))
+    kb1 = yield within("e")
+    kb2 = yield within("e")
+    yield within("e", lambda v: v == (sum(reply) + kb1 + kb2) % 256 and is_good(kb1, kb2))
+    return kb1, kb2
+
+
+class Link:
+    def __init__(self):
+        self.clock = self.mark = self.taken = self.heard = 0
+        self.held = []  # bytes that no report has named
+        self.counts = [0] * 7
+        self.go_down()
+
+    def go_down(self):
+        self.state = "down"
+        self.script = self.due = self.fall = None
+        self.kb1 = self.kb2 = self.windows = None
+        self.message = self.why = None
+        self.awaited = None  # the reply that may come: first, further or none
+        self.request = None  # the data of the latest tester frame, until it has taken effect
+
+    # -- reports
+
+    def tell(self, number, reason=0):
+        names = number <= 5
+        first = self.heard - len(self.held)
+        n = len(self.held) if names else 0
+        if names:
+            self.held = []
+        self.out.append((number, reason, first, n, self.time))
+        column = {1: 1, 2: 2, 3: 3, 4: 3, 5: 4}.get(number)
+        if column:
+            self.counts[column] += n
+        if number in (1, 2):
+            self.counts[4 + number] += 1
+
+    # -- an event: (kind, side, value, start, end)
+
+    def event(self, kind, side, value, start, end):
+        if kind not in "AWBTD" or (kind == "B" and side not in ("t", "e")):
+            return 1, []
+        if max(start, end) > LATEST:
+            return 2, []
+        if start > end or start < self.clock:
+            return 3, []
+        if self.taken >= MOST or any(c > MOST for c in self.counts):
+            return 4, []
+        self.out, self.time = [], end
+        self.pass_time(start)
+        if kind in "AWD":
+            self.close(3 if kind == "D" else 4)
+        if kind in "AW":
+            if start - self.mark < 300 * MS:
+                self.tell(8)
+                self.go_down()
+            elif kind == "A":
+                self.begin(slow(value))
+            elif 24 * MS <= end - start <= 26 * MS:
+                self.begin(fast())
+                self.fall = start
+            else:
+                self.tell(4, 3)
+                self.go_down()
+        if kind == "B":
+            self.heard += 1
+            self.counts[0] += 1
+            self.held.append(value)
+            {"down": self.outside, "init": self.init_byte, "up": self.byte}[self.state](side, value, start)
+        self.taken += 1
+        self.clock = end
+        if kind in "AWB":
+            self.mark = end
+        return 0, self.out
+
+    def pass_time(self, now):
+        gap = now - self.mark
+        if self.state == "up" and self.open() and gap > 20 * MS:
+            self.tell(2, 1 if self.why is None else self.why)
+            self.message = self.why = self.awaited = None
+        if self.state == "up" and self.awaited == "first" and exceeds(gap, self.windows[1]):
+            self.tell(6)
+            self.awaited = None
+        if self.state == "up" and self.awaited != "first" and exceeds(gap, self.windows[3]):
+            self.tell(7, 2)
+            self.go_down()
+        if self.state == "init" and now - self.origin() > self.due[2]:
+            self.tell(4, 1)
+            self.go_down()
+
+    def open(self):
+        return self.message is not None or self.why is not None
+
+    def close(self, reason):
+        if self.state == "init":
+            self.tell(4, 2)
+            self.go_down()
+        if self.state == "up":
+            if self.open():
+                self.tell(2, 2 if self.why is None else self.why)
+            self.tell(7, reason)
+            self.go_down()
+
+    # -- initializations
+
+    def begin(self, script):
+        self.go_down()
+        self.state, self.script = "init", script
+        self.due = next(script)
+
+    def origin(self):
+        return self.mark if self.fall is None else self.fall
+
+    def init_byte(self, side, value, start):
+        due_side, earliest, _, fits = self.due
+        if side != due_side:
+            reason = 4
+        elif start - self.origin() < earliest:
+            reason = 5
+        elif not fits(value):
+            reason = 6
+        else:
+            try:
+                self.due = self.script.send(value)
+                self.fall = None
+            except StopIteration as end:
+                self.tell(3)
+                self.go_down()
+                self.state = "up"
+                self.kb1, self.kb2 = end.value
+                self.windows = self.own_set()
+            return
+        self.tell(4, reason)
+        self.go_down()
+
+    def own_set(self):
+        return EXTENDED if bits(self.kb1)[4] else NORMAL
+
+    def outside(self, side, value, start):
+        self.tell(5)
+
+    # -- connected
+
+    def byte(self, side, value, start):
+        if self.why is not None:
+            return
+        if self.message is None:
+            self.why = self.against_first(side, value, start - self.mark)
+            self.message = (side, [])
+        elif side != self.message[0]:
+            self.why = 7
+        bytes_ = self.message[1]
+        bytes_.append(value)
+        if self.why is not None:
+            return
+        n = self.size(bytes_)
+        if n == 0:
+            self.why = 8
+        elif n == len(bytes_):
+            reading = read(self.kb1, self.kb2, bytes_)
+            if reading[0]:
+                assert reading[0] == 9, (self.kb1, self.kb2, bytes_)
+                self.why = 9
+            else:
+                self.tell(1)
+                self.message = None
+                start_of_data = reading[4]
+                self.frame(side, bytes_[start_of_data:-1])
+
+    def against_first(self, side, value, gap):
+        p2min, p2max, p3min, _, _ = self.windows
+        if side == "t":
+            if self.awaited == "first" or gap < p3min:
+                return 3
+        else:
+            if self.awaited is None or exceeds(gap, p2max):
+                return 4
+            if gap < p2min:
+                return 3
+        form = {0: 0, 1: None, 2: 1, 3: 2}[value >> 6]
+        if form is None:
+            return 5
+        if form not in forms_taken(self.kb1):
+            return 6
+        if not bits(self.kb1)[0 if value & 63 else 1]:
+            return 8
+        return None
+
+    @staticmethod
+    def size(bytes_):
+        """The size of the whole frame as far as the bytes tell: None if they do not tell yet, 0 if its length byte is 0."""
+        head = 1 + (2 if bytes_[0] >= 0x80 else 0)
+        length = bytes_[0] & 63
+        if not length:
+            if len(bytes_) <= head:
+                return None
+            length = bytes_[head]
+            head += 1
+            if not length:
+                return 0
+        return head + length + 1
+
+    def frame(self, side, data):
+        if side == "t":
+            self.awaited, self.request = "first", data
+            return
+        self.awaited = "further"
+        request = self.request
+        if request is None:
+            return
+        if request[0] == 0x82 and data[0] == 0xC2:
+            self.tell(7, 1)
+            self.go_down()
+        elif request == [0x83, 0x01] and data == [0xC3, 0x01]:
+            self.windows, self.request = self.own_set(), None
+        elif request[:2] == [0x83, 0x03] and len(request) == 7 and data == [0xC3, 0x03]:
+            no, windows = decode(request[2:])
+            if no == 0:
+                self.windows = windows
+            self.request = None
+
+
+def exceeds(gap, limit):
+    return limit != NO_LIMIT and gap > limit
+
+
+# ---- made-up sessions
+
+
+class Dice:
+    def __init__(self, seed):
+        self.seed = seed
+
+    def below(self, n):
+        self.seed = (self.seed * 6364136223846793005 + 1442695040888963407) % 2**64
+        return (self.seed >> 33) % n
+
+    def one_in(self, n):
+        return self.below(n) == 0
+
+    def pick(self, *xs):
+        return xs[self.below(len(xs))]
+
+    def about(self, lo, hi):
+        """A gap in a window: mostly inside, often on an edge, now and then one beside it."""
+        if hi == NO_LIMIT:
+            hi = 30_000_000
+        r = self.below(40)
+        if r < 8:
+            return lo
+        if r < 16:
+            return hi
+        if r == 16:
+            return max(lo - 1, 0)
+        if r == 17:
+            return hi + 1
+        return lo + self.below(max(hi - lo, 1))
+
+
+class Sessions:
+    """Makes up the events of a link, with an eye on a reference link that hears them."""
+
+    def __init__(self, seed):
+        self.dice, self.link, self.events, self.answers = Dice(seed), Link(), [], []
+
+    def send(self, kind, side, value, start, end):
+        event = (kind, side, value, start, end)
+        self.events.append(event)
+        self.answers.append((self.link.event(*event), end))
+
+    def byte(self, side, value, gap, since=None):
+        start = max((self.link.mark if since is None else since) + gap, self.link.clock)
+        if self.dice.one_in(40) and start > self.link.clock:
+            tick = self.link.clock + self.dice.below(start - self.link.clock + 1)
+            self.send("T", "", 0, tick, tick)
+        self.send("B", side, value, start, start + self.dice.pick(0, 960, 960, 960))
+
+    def spoiled(self, value, one_in=80):
+        return self.dice.pick(value ^ 1, self.dice.below(256), 0) if self.dice.one_in(one_in) else value
+
+    def start(self):
+        d = self.dice
+        at = max(self.link.mark + d.pick(300_000, 300_000, 300_000, 310_000, 299_999), self.link.clock)
+        if d.one_in(2):
+            self.address = d.pick(0x33, 0x11, d.below(256))
+            self.send("A", "", self.address, at, at + 2_000_000)
+        else:
+            self.send("W", "", 0, at, at + d.pick(24_000, 26_000, 25_000, 25_000, 25_000, 25_000, 23_999, 26_001))
+
+    def initialize(self):
+        d, link = self.dice, self.link
+        kb1 = d.pick(0xEF, 0xD5, 0xDF, 0xE9, 0x57, 0x6B, 0xD9, 0xE5, 0x67, 0xDA)
+        layout = d.pick(0x03, 0x00, 0x83, 0x80)
+        reply = [layout] + ([0xF1, 0x11] if layout >= 0x80 else []) + ([3] if layout % 0x80 == 0 else []) + [0xC1, kb1, 0x8F]
+        request = [d.pick(0x81, 0xC1), 0x11, 0xF1, 0x81]
+        script = request + [sum(request) % 256] + reply + [sum(reply) % 256]
+        if link.fall is None:
+            script = [0x55, kb1, 0x8F, 0x70, 255 - self.address]
+        for value in script:
+            if link.state != "init":
+                return
+            if d.one_in(60):
+                self.disturb()
+                continue
+            side, lo, hi, _ = link.due
+            if d.one_in(80):
+                side = "e" if side == "t" else "t"
+            self.byte(side, self.spoiled(value), d.about(lo, hi), link.origin())
+
+    def frame(self, data):
+        d, kb1 = self.dice, self.link.kb1
+        form = d.pick(*sorted(forms_taken(kb1))) if not d.one_in(60) else d.below(4)
+        b = bits(kb1)
+        extra = (b[1] and (d.one_in(3) or not b[0])) if not d.one_in(60) else d.one_in(2)
+        top = [0x00, 0x80, 0xC0, 0x40][form]
+        head = [top + (0 if extra else len(data) % 64)] + ([0x11, 0xF1] if form in (1, 2) else []) + ([len(data)] if extra else [])
+        frame = head + data
+        return frame + [sum(frame) % 256]
+
+    def message(self, side, data, lo, hi):
+        d, first = self.dice, True
+        for value in self.frame(data):
+            if self.link.state != "up":
+                return
+            if d.one_in(120):
+                self.disturb()
+                continue
+            if d.one_in(300):
+                side = "e" if side == "t" else "t"
+            self.byte(side, self.spoiled(value, 250), d.about(lo, hi) if first else d.pick(0, 0, 5000, 5000, 20_000, d.about(0, 20_000)))
+            first = False
+
+    def exchange(self):
+        d, link = self.dice, self.link
+        kind = d.below(12)
+        asked = [0x21] + [d.below(256) for _ in range(d.pick(0, 1, 2, 6, 7, 20, 62))]
+        given = [0x61] + asked[1:]
+        if kind == 0:
+            asked, given = [0x82] + asked[1:3], [0xC2] + asked[1:2]
+        elif kind in (1, 2):
+            asked, given = [0x83, 0x01], [0xC3, 0x01]
+        elif kind in (3, 4, 5):
+            codes = d.pick([0x32, 0x02, 0x6E, 0x14, 0x0A], [0x00, 0x28, 0x0B, 0x14, 0x0A], [0x04, 0x01, 0x0C, 0x04, 0x04], [0, 0xFF, 0x10, 0xFF, 0], [0, 0xF1, 0x40, 0x01, 0x0A], [0x32, 0x02, 0x0A, 0x14, 0x0A], [d.below(256) for _ in range(5)])
+            asked, given = [0x83, 0x03] + codes, [0xC3, 0x03]
+        elif kind == 6:
+            asked, given = [0x83, 0x03], [0xC3, 0x03]
+        _, _, p3min, p3max, _ = link.windows
+        self.message("t", asked, p3min, d.pick(p3min + 10_000, p3max))
+        if link.state == "up" and not d.one_in(12):
+            for _ in range(d.pick(1, 1, 1, 2, 3)):
+                if link.state == "up":
+                    self.message("e", given if not d.one_in(20) else given + [1], link.windows[0], link.windows[1])
+
+    def disturb(self):
+        d, link = self.dice, self.link
+        gap = d.pick(0, 0, 1_000, 5_000, 20_000, 20_001, 50_000, 50_001, 300_000, 5_000_000, 5_000_001, 30_000_000)
+        at = max(link.mark + gap, link.clock)
+        kind = d.below(10)
+        if kind < 3:
+            self.send("T", "", 0, at, at)
+        elif kind == 3:
+            self.send("D", "", 0, at, at)
+        elif kind == 4:
+            self.send("A", "", d.below(256), at, at + d.below(3) * 1000)
+            self.address = self.events[-1][2]
+        elif kind == 5:
+            self.send("W", "", 0, at, at + d.pick(25_000, 10))
+        elif kind == 6:
+            self.send("B", d.pick("t", "e"), d.below(256), at, at + 960)
+        else:
+            self.refused(at)
+
+    def refused(self, at):
+        d = self.dice
+        r = d.below(6)
+        if r == 0:
+            self.send("X", "", 0, at, at)
+        elif r == 1:
+            self.send("B", "x", 1, at, at)
+        elif r == 2:
+            self.send(d.pick("T", "D"), "", 0, LATEST + 1, LATEST + 1)
+        elif r == 3:
+            self.send("W", "", 0, at, LATEST + 1)
+        elif r == 4 and self.link.clock:
+            self.send("B", "t", 1, self.link.clock - 1, at)
+        else:
+            self.send("B", "e", 1, at + 1, at)
+
+    def run(self, n):
+        d = self.dice
+        while len(self.events) < n:
+            if d.one_in(25):
+                self.disturb()
+            elif self.link.state == "down":
+                self.start()
+            elif self.link.state == "init":
+                self.initialize()
+            else:
+                self.exchange()
+        return self
+
+
+def example():
+    """Document 01's own example."""
+    s = Sessions(0)
+    s.send("W", "", 0, 300_000, 325_000)
+    at = 350_000
+    for side, at, gap, values in (("t", 350_000, 5000, "81 11 F1 81 04"), ("e", 404_800, 0, "83 F1 11 C1 EF 8F C4"), ("t", 466_520, 5000, "01 3E 3F")):
+        for value in bytes.fromhex(values):
+            s.send("B", side, value, at, at + 960)
+            at += 960 + gap
+    s.send("T", "", 0, 529_401, 529_401)
+    return s
+
+
+EVERY = {(1, 0), (3, 0), (5, 0), (6, 0), (8, 0)} | {(2, k) for k in range(1, 10)} | {(4, k) for k in range(1, 7)} | {(7, k) for k in range(1, 5)}
+
+
+def lists():
+    """The event lists, each for a fresh link: the example, then made-up sessions."""
+    return [example()] + [Sessions(seed).run(600) for seed in range(1, 13)]
+
+
+def pack(event):
+    kind, side, value, start, end = event
+    return struct.pack("<ccBBQQ", kind.encode(), side.encode() or b"\0", value, 0, start, end)
+
+
+def main(what):
+    runs = lists()
+    seen = {r[:2] for s in runs for (_, reports), _ in s.answers for r in reports}
+    numbers = {no for s in runs for (no, _), _ in s.answers}
+    if EVERY - seen or {0, 1, 2, 3} - numbers:
+        sys.exit(f"the made-up lists reach no {sorted(EVERY - seen)} {sorted({0, 1, 2, 3} - numbers)}")
+    for s in runs:
+        if what == "events":
+            for event in s.events:
+                sys.stdout.buffer.write(pack(event))
+            sys.stdout.buffer.write(b"\0" * 20)  # the end of a list: the next link is fresh
+            continue
+        print("report reason first bytes time")
+        for (no, reports), _ in s.answers:
+            if no:
+                print("refused", no)
+            for r in reports:
+                print(*r)
+        print("end", *s.link.counts, len(s.link.held))
+
+
+if __name__ == "__main__":
+    if sys.argv[1:] not in (["events"], ["reports"]):
+        sys.exit(__doc__)
+    main(sys.argv[1])
