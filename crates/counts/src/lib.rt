@@ -1,0 +1,36 @@
+// The counts that the host lends, brought up to date where they stand.
+ghost use mathlib.Core.Path.{_≡_};
+ghost use Rattle.link.specs.Counting.{countsAfter};
+ghost use Rattle.link.specs.Stepping.{answerOf};
+ghost use Rattle.counts.specs.Lent.{Steps};
+
+use events::Event;
+use link::Answer;
+use link::Counts;
+use link::Link;
+
+// What an event is answered with, on plain values.
+fn answer_with(c: Counts, l: Link, e: Event) -> Answer
+    ensures { λ r. ⌜ r ≡ answerOf l c e ⌝ }
+{
+    link::respond(l, c, e)
+}
+
+// The counts after it, on plain values.
+fn counts_with(c: Counts, a: Answer, e: Event) -> Counts
+    ensures { λ r. ⌜ r ≡ countsAfter c a e ⌝ }
+{
+    link::counted(c, a, e)
+}
+
+// A step of a link with the counts that the host lends: the answer to the event, and the counts
+// brought up to date.
+pub fn step(counts: &mut Counts, l: Link, e: Event) -> Answer
+    ensures { λ r. ⌜ Steps l (now (counts .entry)) e r (now (counts .exit)) ⌝ }
+{
+    let c = *counts;
+    let a = answer_with(c, l, e);
+    let d = counts_with(c, a, e);
+    *counts = d;
+    a
+}

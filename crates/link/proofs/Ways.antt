@@ -1,0 +1,240 @@
+-- The short ways of the code are the rules' own: where no time runs out, passing time changes nothing; and a byte that makes no report is answered
+-- with the link gone on. Assumes nothing.
+use Prim.Native.Nat.{ℕ}
+use mathlib.Core.Bool.{Bool, true, false, not, _&&_, _||_, false≢true}
+use mathlib.Core.Path.{_≡_, _∙_, refl, sym, ap}
+use lib.Dec.{eqb}
+use borrow.Author.Tests.{eq-eqb, not-true}
+use Rattle.base.specs.Choice.{if_then_else_}
+use Rattle.base.specs.Numbers.{taken}
+use Rattle.base.specs.Reports.{noReason}
+use Rattle.base.proofs.Tests.{and-split, by-test}
+use Rattle.units.specs.Units.{gapOf}
+use Rattle.units.specs.declared.Micros.{Micros}
+use Rattle.timing.specs.Timing.{isPassed}
+use Rattle.timing.specs.declared.Limit.{Limit}
+use Rattle.events.specs.Events.{isByte, marks, sameSide}
+use Rattle.events.specs.declared.Kind.{Kind}
+use Rattle.events.specs.declared.Kind.the-variants.{Address, WakeUp, Byte, Tick, Drop, Other}
+use Rattle.events.specs.declared.Side.{Side}
+use Rattle.events.specs.declared.Event.{Event}
+use Rattle.starts.specs.Starts.{isOver}
+use Rattle.talk.specs.Talk.{isFirst, isInside, isSum, partReason, laterReason, begun, grown}
+use Rattle.talk.specs.declared.Part.{Part}
+use Rattle.talk.specs.declared.Part.the-variants.{Target, Source, Length, Data, Sum}
+use Rattle.talk.specs.declared.Message.{Message}
+use Rattle.phases.specs.Phases.{isStarting, isQuiet, isHeld, isOpen, talking, holding, damaged}
+use Rattle.phases.specs.Moves.{still, isSilent, afterSilence, afterP2, afterP3, sinceOrigin, afterWindow}
+use Rattle.phases.specs.Moves.{reasonAtFirst, firstByte, laterByte, byteIn, afterByte, afterStop}
+use Rattle.phases.specs.declared.State.{State}
+use Rattle.phases.specs.declared.State.the-variants.{Down, Starting, Quiet, Held, Damage}
+use Rattle.phases.specs.declared.Phase.{Phase}
+use Rattle.link.specs.Handling.{noReports, moved, passed, hearing, byteHeard, actedBy, acted, handled, markAfter, linkAfter}
+use Rattle.link.specs.Handling.{begun as begins}
+use Rattle.link.specs.Stepping.{numberOf, takenBy, answerOf}
+use Rattle.link.specs.Quick.{limitOf, calmIn, isCalm, wentOn, goesOn, isFirstByte}
+use Rattle.link.specs.declared.Link.{Link}
+use Rattle.link.specs.declared.Counts.{Counts}
+use Rattle.link.specs.declared.Run.{Run}
+
+-- ---- tests that fail
+off : {A : Type 0} (b : Bool) (x y : A) → b ≡ false → (if b then x else y) ≡ y
+off true x y e = absurd (false≢true (sym e))
+off false x y e = refl
+
+off-left : (a b : Bool) → a ≡ false → (a && b) ≡ false
+off-left true b e = absurd (false≢true (sym e))
+off-left false b e = refl
+
+off-right : (a b : Bool) → b ≡ false → (a && b) ≡ false
+off-right true b e = e
+off-right false b e = refl
+
+off-three : (a b c : Bool) → (b && c) ≡ false → (a && b && c) ≡ false
+off-three true b c e = e
+off-three false b c e = refl
+
+-- the one limit that is looked at serves both rules
+by-first : (f : Bool) (a b : Limit) (gap : Micros) → isPassed (if f then a else b) gap ≡ false → (f && isPassed a gap) ≡ false
+by-first true a b gap h = h
+by-first false a b gap h = refl
+
+by-other : (f : Bool) (a b : Limit) (gap : Micros) → isPassed (if f then a else b) gap ≡ false → (not f && isPassed b gap) ≡ false
+by-other true a b gap h = refl
+by-other false a b gap h = h
+
+-- ---- no time runs out: the tests of the four rules all fail
+record Calm (p : Phase) (mark start : Micros) : Type 0 where
+  silent : (isOpen (p .state) && isSilent (gapOf mark start)) ≡ false
+  replied : (isQuiet (p .state) && isFirst (p .reply) && isPassed (p .windows .p2max) (gapOf mark start)) ≡ false
+  busy : (isQuiet (p .state) && not (isFirst (p .reply)) && isPassed (p .windows .p3max) (gapOf mark start)) ≡ false
+  within : (isStarting (p .state) && isOver (p .start) (sinceOrigin p mark start)) ≡ false
+
+calm-in : (st : State) (p : Phase) (mark start : Micros) → p .state ≡ st → calmIn st p mark start ≡ true → Calm p mark start
+unfolding isOpen isQuiet isStarting limitOf
+calm-in Down p mark start e h = record {
+  silent = off-left (isOpen (p .state)) _ (ap isOpen e);
+  replied = off-left _ _ (off-left (isQuiet (p .state)) _ (ap isQuiet e));
+  busy = off-left _ _ (off-left (isQuiet (p .state)) _ (ap isQuiet e));
+  within = off-left (isStarting (p .state)) _ (ap isStarting e);
+}
+calm-in Starting p mark start e h = record {
+  silent = off-left (isOpen (p .state)) _ (ap isOpen e);
+  replied = off-left _ _ (off-left (isQuiet (p .state)) _ (ap isQuiet e));
+  busy = off-left _ _ (off-left (isQuiet (p .state)) _ (ap isQuiet e));
+  within = off-right (isStarting (p .state)) _ (not-true (isOver (p .start) (sinceOrigin p mark start)) h);
+}
+calm-in Quiet p mark start e h =
+    let x = not-true (isPassed (if isFirst (p .reply) then p .windows .p2max else p .windows .p3max) (gapOf mark start)) h in
+    record {
+      silent = off-left (isOpen (p .state)) _ (ap isOpen e);
+      replied = off-three (isQuiet (p .state)) _ _ (by-first (isFirst (p .reply)) (p .windows .p2max) (p .windows .p3max) (gapOf mark start) x);
+      busy = off-three (isQuiet (p .state)) _ _ (by-other (isFirst (p .reply)) (p .windows .p2max) (p .windows .p3max) (gapOf mark start) x);
+      within = off-left (isStarting (p .state)) _ (ap isStarting e);
+    }
+calm-in Held p mark start e h = record {
+  silent = off-right (isOpen (p .state)) _ (not-true (isSilent (gapOf mark start)) h);
+  replied = off-left _ _ (off-left (isQuiet (p .state)) _ (ap isQuiet e));
+  busy = off-left _ _ (off-left (isQuiet (p .state)) _ (ap isQuiet e));
+  within = off-left (isStarting (p .state)) _ (ap isStarting e);
+}
+calm-in Damage p mark start e h = record {
+  silent = off-right (isOpen (p .state)) _ (not-true (isSilent (gapOf mark start)) h);
+  replied = off-left _ _ (off-left (isQuiet (p .state)) _ (ap isQuiet e));
+  busy = off-left _ _ (off-left (isQuiet (p .state)) _ (ap isQuiet e));
+  within = off-left (isStarting (p .state)) _ (ap isStarting e);
+}
+
+calm : (p : Phase) (mark start : Micros) → isCalm p mark start ≡ true → Calm p mark start
+unfolding isCalm
+calm p mark start h = calm-in (p .state) p mark start refl h
+
+moved-still : (r : Run) → moved r (still (r .phase)) ≡ r
+unfolding moved
+moved-still r = refl
+
+pub passed-calm : (r : Run) (mark start : Micros) → isCalm (r .phase) mark start ≡ true → passed r mark start ≡ r
+unfolding passed afterSilence afterP2 afterP3 afterWindow
+passed-calm r mark start h =
+    let c = calm (r .phase) mark start h in
+    rw (c .silent, moved-still r, c .replied, moved-still r, c .busy, moved-still r, c .within) (moved-still r)
+
+-- ---- a byte before which no time runs out, and which makes no report
+byte-acts : (k : Kind) (r : Run) (e : Event) (mark : Micros) → isByte k ≡ true → actedBy k r e mark ≡ byteHeard r e mark
+unfolding isByte
+byte-acts Byte r e mark h = refl
+byte-acts Address r e mark h = absurd (false≢true h)
+byte-acts WakeUp r e mark h = absurd (false≢true h)
+byte-acts Tick r e mark h = absurd (false≢true h)
+byte-acts Drop r e mark h = absurd (false≢true h)
+byte-acts Other r e mark h = absurd (false≢true h)
+
+byte-marks : (k : Kind) → isByte k ≡ true → marks k ≡ true
+unfolding isByte marks
+byte-marks Byte h = refl
+byte-marks Address h = refl
+byte-marks WakeUp h = refl
+byte-marks Tick h = h
+byte-marks Drop h = h
+byte-marks Other h = h
+
+-- THE LAW that each short way is a case of
+pub byte-step : (l : Link) (c : Counts) (e : Event) (p : Phase) → numberOf l c e ≡ taken → isByte (e .kind) ≡ true
+    → isCalm (l .phase) (l .mark) (e .start) ≡ true → afterByte (l .phase) (e .side) (e .value) (l .mark) (e .start) ≡ still p → afterStop p ≡ still p
+    → wentOn l e p ≡ answerOf l c e
+unfolding answerOf takenBy handled acted begins byteHeard moved linkAfter markAfter wentOn
+byte-step l c e p t k q b s =
+    rw (eq-eqb _ _ t, passed-calm (begins l e) (l .mark) (e .start) q, byte-acts (e .kind) (begins l e) e (l .mark) k, b, s, byte-marks (e .kind) k) refl
+
+-- a link that is not quiet was not stopped
+not-stopped : (p : Phase) → isQuiet (p .state) ≡ false → afterStop p ≡ still p
+unfolding afterStop
+not-stopped p h = off _ _ _ (off-left (isQuiet (p .state)) _ h)
+
+-- ---- the first byte of a message
+quiet-calm : (st : State) (p : Phase) (mark start : Micros) → isQuiet st ≡ true → not (isPassed (limitOf p) (gapOf mark start)) ≡ true
+    → calmIn st p mark start ≡ true
+unfolding isQuiet
+quiet-calm Quiet p mark start h g = g
+quiet-calm Down p mark start h g = refl
+quiet-calm Starting p mark start h g = absurd (false≢true h)
+quiet-calm Held p mark start h g = absurd (false≢true h)
+quiet-calm Damage p mark start h g = absurd (false≢true h)
+
+quiet-byte : (st : State) (p : Phase) (side : Side) (v : ℕ) (mark start : Micros) → isQuiet st ≡ true
+    → byteIn st p side v mark start ≡ still (firstByte p side v (gapOf mark start))
+unfolding isQuiet
+quiet-byte Quiet p side v mark start h = refl
+quiet-byte Down p side v mark start h = absurd (false≢true h)
+quiet-byte Starting p side v mark start h = absurd (false≢true h)
+quiet-byte Held p side v mark start h = absurd (false≢true h)
+quiet-byte Damage p side v mark start h = absurd (false≢true h)
+
+first-opens : (p : Phase) (side : Side) (v : ℕ) (gap : Micros) → isQuiet (firstByte p side v gap .state) ≡ false
+unfolding firstByte holding damaged talking isQuiet
+first-opens p side v gap =
+    by-test (λ (x : Phase). isQuiet (x .state) ≡ false) (eqb (reasonAtFirst p side v gap) noReason) {x = holding p (begun side v)} {y = damaged p (reasonAtFirst p side v gap)} (λ _. refl) (λ _. refl)
+
+pub first-step : (l : Link) (c : Counts) (e : Event) → numberOf l c e ≡ taken → isFirstByte l e ≡ true
+    → wentOn l e (firstByte (l .phase) (e .side) (e .value) (gapOf (l .mark) (e .start))) ≡ answerOf l c e
+unfolding isFirstByte isCalm afterByte
+first-step l c e t h =
+    let x = and-split (isByte (e .kind) && isQuiet (l .phase .state)) _ h in
+    let y = and-split (isByte (e .kind)) _ (x .0) in
+    byte-step l c e _ t (y .0) (quiet-calm (l .phase .state) (l .phase) (l .mark) (e .start) (y .1) (x .1))
+    (quiet-byte (l .phase .state) (l .phase) (e .side) (e .value) (l .mark) (e .start) (y .1))
+    (not-stopped _ (first-opens (l .phase) (e .side) (e .value) (gapOf (l .mark) (e .start))))
+
+-- ---- a byte that goes on with its message
+held-calm : (st : State) (p : Phase) (mark start : Micros) → isHeld st ≡ true → not (isSilent (gapOf mark start)) ≡ true → calmIn st p mark start ≡ true
+unfolding isHeld
+held-calm Held p mark start h g = g
+held-calm Down p mark start h g = refl
+held-calm Starting p mark start h g = absurd (false≢true h)
+held-calm Quiet p mark start h g = absurd (false≢true h)
+held-calm Damage p mark start h g = g
+
+inside-right : (part : Part) (m : Message) (v : ℕ) → isInside part ≡ true → partReason part m v ≡ noReason
+unfolding isInside
+inside-right Target m v h = refl
+inside-right Source m v h = refl
+inside-right Length m v h = absurd (false≢true h)
+inside-right Data m v h = refl
+inside-right Sum m v h = absurd (false≢true h)
+
+inside-more : (part : Part) → isInside part ≡ true → isSum part ≡ false
+unfolding isInside isSum
+inside-more Target h = refl
+inside-more Source h = refl
+inside-more Length h = refl
+inside-more Data h = refl
+inside-more Sum h = absurd (false≢true h)
+
+later-on : (p : Phase) (side : Side) (v : ℕ) → sameSide side (p .message .side) ≡ true → isInside (p .message .part) ≡ true
+    → laterByte p side v ≡ still (holding p (grown (p .message) v))
+unfolding laterByte laterReason
+later-on p side v s i = rw (s, inside-right (p .message .part) (p .message) v i, inside-more (p .message .part) i) refl
+
+held-byte : (st : State) (p : Phase) (side : Side) (v : ℕ) (mark start : Micros) → isHeld st ≡ true → byteIn st p side v mark start ≡ laterByte p side v
+unfolding isHeld
+held-byte Held p side v mark start h = refl
+held-byte Down p side v mark start h = absurd (false≢true h)
+held-byte Starting p side v mark start h = absurd (false≢true h)
+held-byte Quiet p side v mark start h = absurd (false≢true h)
+held-byte Damage p side v mark start h = absurd (false≢true h)
+
+holding-open : (p : Phase) (m : Message) → isQuiet (holding p m .state) ≡ false
+unfolding holding talking isQuiet
+holding-open p m = refl
+
+pub on-step : (l : Link) (c : Counts) (e : Event) → numberOf l c e ≡ taken → goesOn l e ≡ true
+    → wentOn l e (holding (l .phase) (grown (l .phase .message) (e .value))) ≡ answerOf l c e
+unfolding goesOn isCalm afterByte
+on-step l c e t h =
+    let x = and-split (isByte (e .kind) && isHeld (l .phase .state) && not (isSilent (gapOf (l .mark) (e .start)))) _ h in
+    let y = and-split (isByte (e .kind) && isHeld (l .phase .state)) _ (x .0) in
+    let z = and-split (isByte (e .kind)) _ (y .0) in
+    let s = and-split (sameSide (e .side) (l .phase .message .side)) _ (x .1) in
+    byte-step l c e _ t (z .0) (held-calm (l .phase .state) (l .phase) (l .mark) (e .start) (z .1) (y .1))
+    (held-byte (l .phase .state) (l .phase) (e .side) (e .value) (l .mark) (e .start) (z .1) ∙ later-on (l .phase) (e .side) (e .value) (s .0) (s .1))
+    (not-stopped _ (holding-open (l .phase) (grown (l .phase .message) (e .value))))

@@ -1,0 +1,18 @@
+-- `link::counting::counted` meets its contract: at each return, the tests and matches on the way there pick the case of the definition.
+-- Assumes nothing.
+use borrow.Author.Needs.{needs}
+use borrow.Author.Tests.{eq-eqb, ne-eqb}
+use Rattle.link.specs.Counting.{countsAfter}
+use Rattle.link.proofs.counting.counted.Statement.{statement}
+use Rattle.link.proofs.counting.counted.Tie as tie
+
+pub counted-spec : {M : Type 1} → statement M
+unfolding countsAfter
+counted-spec =
+    tie.close
+    (tie.spec
+    (λ c κs. search needs)
+    (λ c κs. search needs)
+    (λ c κs. search needs)
+    (λ c. rw (c .count-all .ensures, eq-eqb _ _ (c .before .before .before .if1 .taken), ← (c .before .before .is-byte .ensures), ← (c .before .count-byte .ensures)))
+    (λ c. rw (ne-eqb _ _ (c .if1 .left))))

@@ -1,0 +1,13 @@
+-- `link::telling::names_bytes` meets its contract: at each return, the tests and matches on the way there pick the case of the definition.
+-- Assumes nothing.
+use mathlib.Core.Path.{refl}
+use Rattle.link.specs.Handling.{namesBytes}
+use Rattle.link.proofs.telling.names_bytes.Statement.{statement}
+use Rattle.link.proofs.telling.names_bytes.Tie as tie
+
+pub names-bytes-spec : {M : Type 1} → statement M
+unfolding namesBytes
+names-bytes-spec =
+    tie.close
+    (tie.spec
+    (λ c. refl))

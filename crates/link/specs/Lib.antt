@@ -1,0 +1,4 @@
+pub mod Handling
+pub mod Counting
+pub mod Stepping
+pub mod Quick

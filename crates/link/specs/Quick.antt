@@ -1,0 +1,67 @@
+-- Tests that the code takes first, for the common byte. No rule stands here, and a reader may pass it over: that under these tests the answer is
+-- the one of `Stepping` is proved in proofs/Ways.antt.
+-- Assumes nothing.
+use Prim.Native.Nat.{ℕ}
+use mathlib.Core.Bool.{Bool, true, false, not, _&&_, _||_}
+use Rattle.base.specs.Choice.{if_then_else_}
+use Rattle.base.specs.Numbers.{taken}
+use Rattle.base.specs.Sums.{countSum}
+use Rattle.units.specs.Units.{gapOf}
+use Rattle.units.specs.declared.Micros.{Micros}
+use Rattle.timing.specs.Timing.{isPassed}
+use Rattle.timing.specs.declared.Limit.{Limit}
+use Rattle.events.specs.Events.{isByte, sameSide}
+use Rattle.events.specs.declared.Side.{Side}
+use Rattle.events.specs.declared.Event.{Event}
+use Rattle.starts.specs.Starts.{isOver}
+use Rattle.talk.specs.Talk.{isFirst, isInside}
+use Rattle.talk.specs.declared.Message.{Message}
+use Rattle.phases.specs.Phases.{isHeld, isQuiet}
+use Rattle.phases.specs.Moves.{isSilent, sinceOrigin}
+use Rattle.phases.specs.declared.State.{State}
+use Rattle.phases.specs.declared.State.the-variants.{Down, Starting, Quiet, Held, Damage}
+use Rattle.phases.specs.declared.Phase.{Phase}
+use Rattle.link.specs.Handling.{noReports}
+use Rattle.link.specs.declared.Link.{Link}
+use Rattle.link.specs.declared.Answer.{Answer}
+
+-- no time runs out up to an event's start
+unfoldable pub limitOf : Phase → Limit
+limitOf p = if isFirst (p .reply) then p .windows .p2max else p .windows .p3max
+
+abbrev pub calmIn : State → Phase → Micros → Micros → Bool
+calmIn Down p mark start = true
+calmIn Starting p mark start = not (isOver (p .start) (sinceOrigin p mark start))
+calmIn Quiet p mark start = not (isPassed (limitOf p) (gapOf mark start))
+calmIn Held p mark start = not (isSilent (gapOf mark start))
+calmIn Damage p mark start = not (isSilent (gapOf mark start))
+
+unfoldable pub isCalm : Phase → Micros → Micros → Bool
+isCalm p mark start = calmIn (p .state) p mark start
+
+-- the answer to a byte before which no time runs out and which makes no report
+unfoldable pub wentOn : Link → Event → Phase → Answer
+wentOn l e p = record {
+  link = record {
+    clock = e .end;
+    mark = e .end;
+    taken = countSum (l .taken) 1;
+    heard = countSum (l .heard) 1;
+    named = l .named;
+    phase = p;
+  };
+  reports = noReports;
+  no = taken;
+}
+
+-- a byte goes on with the message held: its side's, neither the length byte nor the checksum
+unfoldable pub goesOn : Link → Event → Bool
+goesOn l e =
+    isByte (e .kind)
+    && isHeld (l .phase .state)
+    && not (isSilent (gapOf (l .mark) (e .start)))
+    && (sameSide (e .side) (l .phase .message .side) && isInside (l .phase .message .part))
+
+-- a byte is the first of a message
+unfoldable pub isFirstByte : Link → Event → Bool
+isFirstByte l e = isByte (e .kind) && isQuiet (l .phase .state) && not (isPassed (limitOf (l .phase)) (gapOf (l .mark) (e .start)))
