@@ -17,6 +17,13 @@ struct Session {
     counts: Counts,
 }
 
+// A record: its event; whether there is one, and whether it ends a list.
+struct Record {
+    event: Event,
+    there: bool,
+    ends: bool,
+}
+
 // The most records that are read.
 const MOST: u64 = 10_000_000;
 
@@ -133,13 +140,26 @@ fn hear(s: Session, e: Event) -> Session {
     }
 }
 
+// The next record of the input.
+fn next_record() -> Record {
+    let mut s = [0u8; 20];
+    let n = io::read_full(STDIN_FILENO, &mut s);
+    Record {
+        event: event_of(s),
+        there: n == 20,
+        ends: s[0] == 0,
+    }
+}
+
 // One record: an event, or the end of a list.
-fn take(s: Session, record: [u8; 20]) -> Session {
-    if record[0] == 0 {
+fn take(s: Session, r: Record) -> Session {
+    let e = r.event;
+    let ends = r.ends;
+    if ends {
         print_end(s);
         return fresh();
     }
-    hear(s, event_of(record))
+    hear(s, e)
 }
 
 // The head of a list, where a record begins one.
@@ -151,17 +171,17 @@ fn head(first: bool) {
 
 fn main() {
     let mut s = fresh();
-    let mut record = [0u8; 20];
     let mut first = true;
     let mut i: u64 = 0;
     while i < MOST {
-        let n = io::read_full(STDIN_FILENO, &mut record);
-        if n < 20 {
+        let r = next_record();
+        let there = r.there;
+        if !there {
             return;
         }
         head(first);
-        first = record[0] == 0;
-        s = take(s, record);
+        first = r.ends;
+        s = take(s, r);
         i += 1;
     }
 }

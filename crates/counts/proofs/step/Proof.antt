@@ -21,7 +21,7 @@ use types.Run.{look, look-raw, store-raw, init, forget, stop, hop, from, load, a
 use types.SemTy.{Body}
 use sound.WpLaws.{FmC, fmOf, WpFn-mono}
 use denote.RattleType.{owns}
-use denote.Laws.{Is, shows}
+use denote.Laws.{Is, Typed, shows}
 use denote.Memory.{mem}
 use denote.Ref.{RefT, MutRef, ptr-vals, mut-tells}
 use denote.Signature.{plain}
@@ -93,6 +93,20 @@ module _ {M : Type 1} (𝓤 : URA M) (H : Heap 𝓤) (A : Atoms 𝓤) (at-mem : 
   cts-of : (c : Counts) (a : Answer) (e : Event) (r : Counts) → ent 𝓤 (ensured 𝓤 H A cts.ended (cts.clauses 𝓤 H A at-mem run) tt (c, (a, (e, tt))) tt r) (fact 𝓤 (r ≡ countsAfter c a e))
   cts-of c a e r = exE 𝓤 _ (λ ws. snd∗ 𝓤 (sem 𝓤 H A (lasts cts.ended tt (c, (a, (e, tt))) ws)) (fact 𝓤 (r ≡ countsAfter c a e)))
 
+module _ {M : Type 1} (𝓤 : URA M) (H : Heap 𝓤) (A : Atoms 𝓤) (W : Given 𝓤 H A) where
+  -- the machine values of what goes through the walk fit their types
+  typedT : (x : Counts) (v : Val) → Is T.the-row x (v ∷ []) → Typed (T.the-row .mir) (v ∷ [])
+  typedT x v p = LL.lawful T.the-type T′.the-laws 𝓤 H A W .typed x (v ∷ []) p
+
+  typedL : (x : Link) (v : Val) → Is L.the-row x (v ∷ []) → Typed (L.the-row .mir) (v ∷ [])
+  typedL x v p = LL.lawful L.the-type L′.the-laws 𝓤 H A W .typed x (v ∷ []) p
+
+  typedE : (x : Event) (v : Val) → Is E.the-row x (v ∷ []) → Typed (E.the-row .mir) (v ∷ [])
+  typedE x v p = LL.lawful E.the-type E′.the-laws 𝓤 H A W .typed x (v ∷ []) p
+
+  typedN : (x : Answer) (v : Val) → Is N.the-row x (v ∷ []) → Typed (N.the-row .mir) (v ∷ [])
+  typedN x v p = LL.lawful N.the-type N′.the-laws 𝓤 H A W .typed x (v ∷ []) p
+
 module _ {M : Type 1} (𝓤 : URA M) (H : Heap 𝓤) (A : Atoms 𝓤) (W : Given 𝓤 H A) (at-mem : Memory → SProp 𝓤) (run : Routine → Fun 𝓤) (κ : Lft) (q : Share) (b o : ℕ) (γ : GName) (h : Counts) (l : Link) (e : Event) where
   abbrev x : Arg
   x = (record { ptr = (b, o); name = γ; now = h }, (l, (e, tt)))
@@ -144,17 +158,17 @@ module _ {M : Type 1} (𝓤 : URA M) (H : Heap 𝓤) (A : Atoms 𝓤) (W : Given
         -- [obs; the borrow; the token; what l owns; what e owns; true; true]
         enter ! C Λ code.function (vptr b o ∷ valL l ∷ valE e ∷ []) _ $
         alloc1 ! (λ l₀. alloc1 ! (λ l₁. alloc1 ! (λ l₂. alloc1 ! (λ l₃. alloc1 ! (λ l₄. alloc1 ! (λ l₅. alloc1 ! (λ l₆. alloc0 ! $ params1 ! $ pass1 ! (init ! 10 refl (tt, tt)) $
-        pass1 ! (init ! 8 refl (LL.lawful L.the-type L′.the-laws 𝓤 H A W .typed l _ isL .0)) $ pass1 ! (init ! 6 refl (LL.lawful E.the-type E′.the-laws 𝓤 H A W .typed e _ isE .0)) $ pass0 ! $
+        pass1 ! (init ! 8 refl (typedL 𝓤 H A W l _ isL .0)) $ pass1 ! (init ! 6 refl (typedE 𝓤 H A W e _ isE .0)) $ pass0 ! $
         move ! (14 ∷ 15 ∷ 16 ∷ []) $ opens ! tt T.the-row {h = h} b o (λ vs. spelt ! T.the-row (Is T.the-row) (shows 𝓤 H A T.the-row) (LL.vals T.the-type T′.the-laws) (LL.tells T.the-type T′.the-laws) fullShare h vs b o $
         move ! (1 ∷ []) $ peeks ! T.the-row (Is T.the-row) (shows 𝓤 H A T.the-row) h (valT h ∷ []) (λ was. move ! (1 ∷ 0 ∷ []) $
         -- [the cell; what the old counts own; the open borrow; obs; auth; _6 at 5; _5 at 7; _4 at 9; _3 at 11; _2 at 13; _1 at 15; _0 at 17; what l owns at 19; what e owns]
-        assigns ! (of-opd ! (load ! (from ! (hop ! (look ! 15 refl) (stop !))) (look-raw ! 0 refl))) (from ! (stop !)) (init ! 9 refl (LL.lawful T.the-type T′.the-laws 𝓤 H A W .typed h _ was .0)) $
+        assigns ! (of-opd ! (load ! (from ! (hop ! (look ! 15 refl) (stop !))) (look-raw ! 0 refl))) (from ! (stop !)) (init ! 9 refl (typedT 𝓤 H A W h _ was .0)) $
         move ! (1 ∷ 19 ∷ 20 ∷ []) $ use3 W (raw (Ans 𝓤 H A at-mem run .pre to-ans)) goes-ans $
         calls-at ! fm (Ans 𝓤 H A at-mem run) known-ans to-ans (and-then ! (load ! (from ! (stop !)) (look ! 9 refl)) (and-then ! (load ! (from ! (stop !)) (look ! 13 refl)) (and-then ! (load ! (from ! (stop !)) (look ! 11 refl)) (no-more !)))) (λ v.
         use1 W (later (some (λ (a : Answer). (‵ ftrue ⊛ ‵ (N.the-row .own a (v ∷ []))) ⊛ raw (ensured 𝓤 H A ans.ended (ans.clauses 𝓤 H A at-mem run) tt (h, (l, (e, tt))) tt a)))) (id⊢ 𝓤 _) $ await ! tt $ pick ! (λ a.
         split ! $ move ! (1 ∷ []) $ use1 W (raw (fact 𝓤 (a ≡ answerOf l h e))) (ans-of 𝓤 H A at-mem run h l e a) $ heard ! (a ≡ answerOf l h e) (λ eqa. split ! $ drop ! $
         peeks ! N.the-row (Is N.the-row) (shows 𝓤 H A N.the-row) a (v ∷ []) (λ isN.
-        land ! (from ! (stop !)) (init ! 7 refl (LL.lawful N.the-type N′.the-laws 𝓤 H A W .typed a _ isN .0)) $
+        land ! (from ! (stop !)) (init ! 7 refl (typedN 𝓤 H A W a _ isN .0)) $
         -- [what a owns; the cell; the open borrow; obs; auth; the locals, where they were]
         owned ! E.the-row (Is E.the-row) (LL.makes E.the-type E′.the-plain 𝓤 H A) e _ isE $ move ! (1 ∷ 0 ∷ []) $ owned ! T.the-row (Is T.the-row) (LL.makes T.the-type T′.the-plain 𝓤 H A) h _ was $
         use3 W (raw (Cts 𝓤 H A at-mem run .pre (to-cts a v))) (goes-cts a v) $
@@ -162,9 +176,9 @@ module _ {M : Type 1} (𝓤 : URA M) (H : Heap 𝓤) (A : Atoms 𝓤) (W : Given
         use1 W (later (some (λ (d : Counts). (‵ ftrue ⊛ ‵ (T.the-row .own d (w ∷ []))) ⊛ raw (ensured 𝓤 H A cts.ended (cts.clauses 𝓤 H A at-mem run) tt (h, (a, (e, tt))) tt d)))) (id⊢ 𝓤 _) $ await ! tt $ pick ! (λ d.
         split ! $ move ! (1 ∷ []) $ use1 W (raw (fact 𝓤 (d ≡ countsAfter h a e))) (cts-of 𝓤 H A at-mem run h a e d) $ heard ! (d ≡ countsAfter h a e) (λ eqd. split ! $ drop ! $
         peeks ! T.the-row (Is T.the-row) (shows 𝓤 H A T.the-row) d (w ∷ []) (λ isT.
-        land ! (from ! (stop !)) (init ! 5 refl (LL.lawful T.the-type T′.the-laws 𝓤 H A W .typed d _ isT .0)) $
-        assigns ! (of-opd ! (load ! (from ! (stop !)) (look ! 5 refl))) (from ! (hop ! (look ! 15 refl) (stop !))) (store-raw ! 1 refl (LL.lawful T.the-type T′.the-laws 𝓤 H A W .typed d _ isT .0)) $
-        assigns ! (of-opd ! (load ! (from ! (stop !)) (look ! 7 refl))) (from ! (stop !)) (init ! 17 refl (LL.lawful N.the-type N′.the-laws 𝓤 H A W .typed a _ isN .0)) $
+        land ! (from ! (stop !)) (init ! 5 refl (typedT 𝓤 H A W d _ isT .0)) $
+        assigns ! (of-opd ! (load ! (from ! (stop !)) (look ! 5 refl))) (from ! (hop ! (look ! 15 refl) (stop !))) (store-raw ! 1 refl (typedT 𝓤 H A W d _ isT .0)) $
+        assigns ! (of-opd ! (load ! (from ! (stop !)) (look ! 7 refl))) (from ! (stop !)) (init ! 17 refl (typedN 𝓤 H A W a _ isN .0)) $
         move ! (1 ∷ 0 ∷ []) $ closes ! tt T.the-row d (w ∷ []) b o $
         -- [obs; the borrow; the token; _6 at 3; _5 at 5; _4 at 7; _3 at 9; _2 at 11; _1 at 13; _0 at 15]
         returns ! (look ! 15 refl) $ forget ! 3 refl $ forget ! 5 refl $ forget ! 7 refl $ forget ! 9 refl $ forget ! 11 refl $ forget ! 13 refl $ forget ! 15 refl $
