@@ -3,7 +3,6 @@ ghost use mathlib.Core.Path.{_≡_};
 ghost use Rattle.link.specs.Counting.{countsAfter};
 ghost use Rattle.link.specs.Stepping.{answerOf};
 ghost use Rattle.counts.specs.Lent.{Steps};
-
 use events::Event;
 use link::Answer;
 use link::Counts;

@@ -2,7 +2,6 @@
 ghost use mathlib.Core.Path.{_≡_};
 ghost use Rattle.events.specs.Events.{kindBy, sideBy, isOther, isByte, marks, isTester, isUnit, isNobody, sameSide};
 ghost use Rattle.events.specs.Events.{isUnknown, isTooLate, isOutOfOrder, refusal};
-
 use units::Micros;
 
 // What an event is. Other is what is none of the five.

@@ -4,14 +4,13 @@ mod quick;
 mod stepping;
 mod telling;
 
-use phases::Phase;
-use units::Micros;
-
 pub use counting::counted;
 pub use counting::no_counts;
+use phases::Phase;
 pub use stepping::fresh;
 pub use stepping::respond;
 pub use stepping::step;
+use units::Micros;
 
 // A report: the bytes it names by the first one's index and their number, the end time of its event,
 // its number and its reason.

@@ -204,7 +204,11 @@ pub fn respond(l: Link, c: Counts, e: Event) -> Answer
         return go_on(l, e, phases::hold(p, talk::grow(m, e.value)));
     }
     if is_first_byte(l, e) {
-        return go_on(l, e, phases::first_byte(p, side, e.value, units::gap(l.mark, e.start)));
+        return go_on(
+            l,
+            e,
+            phases::first_byte(p, side, e.value, units::gap(l.mark, e.start)),
+        );
     }
     take(l, e)
 }

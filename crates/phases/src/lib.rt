@@ -3,13 +3,6 @@ mod actions;
 mod moves;
 mod states;
 
-use starts::Start;
-use talk::Message;
-use talk::Reply;
-use talk::Request;
-use timing::Windows;
-use units::Micros;
-
 pub use actions::after_byte;
 pub use actions::after_stop;
 pub use actions::first_byte;
@@ -23,10 +16,16 @@ pub use moves::close_open;
 pub use moves::is_silent;
 pub use moves::leave;
 pub use moves::since_origin;
+use starts::Start;
 pub use states::go_down;
 pub use states::hold;
 pub use states::is_held;
 pub use states::is_quiet;
+use talk::Message;
+use talk::Reply;
+use talk::Request;
+use timing::Windows;
+use units::Micros;
 
 // Down; in an initialization; connected with nothing open, with a message held, with damage being
 // skipped.

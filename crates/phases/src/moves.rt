@@ -63,7 +63,11 @@ pub fn after_silence(p: Phase, gap: Micros) -> Move
     let state = p.state;
     let over = is_open(state) & is_silent(gap);
     if over {
-        return making(base::report::DAMAGE, loss_reason(p, base::reason::BROKEN_OFF), settle(p));
+        return making(
+            base::report::DAMAGE,
+            loss_reason(p, base::reason::BROKEN_OFF),
+            settle(p),
+        );
     }
     stay(p)
 }
@@ -125,7 +129,11 @@ pub fn close_open(p: Phase) -> Move
 {
     let state = p.state;
     if is_open(state) {
-        return making(base::report::DAMAGE, loss_reason(p, base::reason::CLOSED), settle(p));
+        return making(
+            base::report::DAMAGE,
+            loss_reason(p, base::reason::CLOSED),
+            settle(p),
+        );
     }
     if is_starting(state) {
         return making(base::report::FAILED, base::reason::CLOSED, go_down());

@@ -40,7 +40,10 @@ fn time_of(low: u64, high: u64) -> Micros {
 fn event_of(s: [u8; 20]) -> Event {
     Event {
         start: time_of(wide(s[4], s[5], s[6], s[7]), wide(s[8], s[9], s[10], s[11])),
-        end: time_of(wide(s[12], s[13], s[14], s[15]), wide(s[16], s[17], s[18], s[19])),
+        end: time_of(
+            wide(s[12], s[13], s[14], s[15]),
+            wide(s[16], s[17], s[18], s[19]),
+        ),
         kind: events::kind_by(s[0]),
         side: events::side_by(s[1]),
         value: s[2],

@@ -4,7 +4,6 @@ ghost use Rattle.starts.specs.Starts.{due, dueAt, isAskFormat, originOf,
 ghost use Rattle.starts.specs.Starts.{isFrom, isEarly, judged, isOver};
 ghost use Rattle.starts.specs.Starts.{afterFormat, nextStage, isLast, isKeyOne, isKeyTwo, isAskSum, sumAfter, onward};
 ghost use Rattle.starts.specs.Starts.{noStart, slowStart, fastStart};
-
 use events::Side;
 use units::Micros;
 

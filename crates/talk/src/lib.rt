@@ -6,7 +6,6 @@ ghost use Rattle.talk.specs.Talk.{afterAddresses, partAfterFormat, begun
 ghost use Rattle.talk.specs.Talk.{withSeven, afterData, withPart, withLength, withData, grown};
 ghost use Rattle.talk.specs.Talk.{isExactly, asksCodes, requestOf, isEffective, codesIn, ifAllowed, windowsFor, windowsAfter};
 ghost use Rattle.talk.specs.Talk.{spent, requestAfter, isStopped};
-
 use events::Side;
 use keys::Form;
 use timing::Codes;

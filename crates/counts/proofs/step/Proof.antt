@@ -73,10 +73,10 @@ stayed = (stay-ref (0 ∷ []) tt (plain (λ _. T.the-row)), (stay-none (λ _. L.
 abbrev valT : Counts → Val
 valT = LL.val T.the-type T′.the-laws
 
-abbrev valL : Link → Val
+unfoldable valL : Link → Val
 valL = LL.val L.the-type L′.the-laws
 
-abbrev valE : Event → Val
+unfoldable valE : Event → Val
 valE = LL.val E.the-type E′.the-laws
 
 module _ {M : Type 1} (𝓤 : URA M) (H : Heap 𝓤) (A : Atoms 𝓤) (at-mem : Memory → SProp 𝓤) (run : Routine → Fun 𝓤) where
@@ -187,6 +187,7 @@ module _ {M : Type 1} (𝓤 : URA M) (H : Heap 𝓤) (A : Atoms 𝓤) (W : Given
 
 module _ {M : Type 1} (𝓤 : URA M) (H : Heap 𝓤) (A : Atoms 𝓤) (W : Given 𝓤 H A) (at-mem : Memory → SProp 𝓤) (run : Routine → Fun 𝓤) where
   step-walks : (C : Calls 𝓤 H) (Λ : Loops 𝓤 H) → FmC 𝓤 H (W .laws) C → Triple 𝓤 (C #ans) (Ans 𝓤 H A at-mem run) → Triple 𝓤 (C #cts) (Cts 𝓤 H A at-mem run) → Walks 𝓤 H A f.ended stayed (WpFn 𝓤 H C Λ code.function) (f.clauses 𝓤 H A at-mem run)
+  unfolding valL valE
   step-walks C Λ fm known-ans known-cts = walked 𝓤 H A f.ended stayed (f.clauses 𝓤 H A at-mem run) (WpFn 𝓤 H C Λ code.function)
       (λ κs. (ptr-vals, (LL.vals L.the-type L′.the-laws, (LL.vals E.the-type E′.the-laws, tt))))
       (λ κs. (mut-tells (named 0) (κs .0) T.the-row, (LL.tells L.the-type L′.the-laws, (LL.tells E.the-type E′.the-laws, tt))))
