@@ -1,6 +1,7 @@
 // The numbers that a caller may get back, by name. What each means is said where it is given;
 // `specs/Numbers.antt` has the same table for the definitions.
 ghost use mathlib.Core.Path.{_≡_};
+ghost use Prim.Native.Nat.{_-_};
 ghost use Rattle.base.specs.Choice.{if_then_else_};
 ghost use Rattle.base.specs.Sums.{byteSum, countSum};
 
@@ -31,6 +32,13 @@ pub const BAD_TIMING: u8 = 10;
 
 // The greatest count.
 const GREATEST: u64 = 18_446_744_073_709_551_615;
+
+// One number less another, and 0 where that is more.
+pub fn less(a: u64, b: u64) -> u64
+    ensures { λ r. ⌜ r ≡ a - b ⌝ }
+{
+    if b <= a { a - b } else { 0 }
+}
 
 // One byte or another.
 pub fn either(first: bool, a: u8, b: u8) -> u8

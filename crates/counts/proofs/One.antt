@@ -4,7 +4,7 @@ use Rattle.base.proofs.One.{Only, only-both}
 use Rattle.events.specs.declared.Event.{Event}
 use Rattle.link.specs.Stepping.{stepOf}
 use Rattle.link.specs.declared.Link.{Link}
-use Rattle.link.specs.declared.Counts.{Counts}
+use Rattle.reports.specs.declared.Counts.{Counts}
 use Rattle.link.specs.declared.Answer.{Answer}
 use Rattle.counts.specs.Lent.{Steps}
 

@@ -4,7 +4,7 @@ use mathlib.Core.Path.{_≡_}
 use Rattle.events.specs.declared.Event.{Event}
 use Rattle.link.specs.Stepping.{stepOf}
 use Rattle.link.specs.declared.Link.{Link}
-use Rattle.link.specs.declared.Counts.{Counts}
+use Rattle.reports.specs.declared.Counts.{Counts}
 use Rattle.link.specs.declared.Answer.{Answer}
 
 -- what a step with lent counts promises: its answer, and all seven counts as they stand afterwards, are those of a step on values

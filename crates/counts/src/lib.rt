@@ -1,11 +1,11 @@
 // The counts that the host lends, brought up to date where they stand.
 ghost use mathlib.Core.Path.{_≡_};
-ghost use Rattle.link.specs.Counting.{countsAfter};
+ghost use Rattle.link.specs.Stepping.{countsAfter};
 ghost use Rattle.link.specs.Stepping.{answerOf};
 ghost use Rattle.counts.specs.Lent.{Steps};
 use events::Event;
 use link::Answer;
-use link::Counts;
+use reports::Counts;
 use link::Link;
 
 // What an event is answered with, on plain values.

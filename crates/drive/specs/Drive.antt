@@ -8,10 +8,10 @@ use Rattle.units.specs.Units.{micros}
 use Rattle.events.specs.Events.{kindBy, sideBy}
 use Rattle.events.specs.declared.Event.{Event}
 use Rattle.link.specs.Handling.{freshLink}
-use Rattle.link.specs.Counting.{zeroCounts}
+use Rattle.reports.specs.Counting.{zeroCounts}
 use Rattle.link.specs.Stepping.{stepOf}
-use Rattle.link.specs.declared.Report.{Report}
-use Rattle.link.specs.declared.Reports.{Reports}
+use Rattle.reports.specs.declared.Report.{Report}
+use Rattle.reports.specs.declared.Reports.{Reports}
 use Rattle.drive.specs.declared.Driven.{Driven}
 
 -- an event: value, side and kind (these two by their letters) in the lowest bytes of the first number, then start and end

@@ -4,10 +4,10 @@ ghost use Prim.Native.Nat.{_+_, _≤_};
 ghost use Rattle.drive.specs.Drive.{eventFrom, mixed, mixedReport, mixedReports, begins, drivenBy, eventAt, digestOf};
 
 use events::Event;
-use link::Counts;
+use reports::Counts;
 use link::Link;
-use link::Report;
-use link::Reports;
+use reports::Report;
+use reports::Reports;
 use units::Micros;
 
 // A link, the counts that it is lent, and a digest of its reports so far.
@@ -80,7 +80,7 @@ fn begin() -> Driven
 {
     Driven {
         link: link::fresh(),
-        counts: link::no_counts(),
+        counts: reports::no_counts(),
         digest: 0,
     }
 }

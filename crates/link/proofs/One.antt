@@ -2,25 +2,21 @@
 use mathlib.Core.Path.{_≡_}
 use Rattle.base.proofs.One.{Only, only}
 use Rattle.link.specs.declared.Answer.{Answer}
-use Rattle.link.specs.declared.Counts.{Counts}
+use Rattle.reports.specs.declared.Counts.{Counts}
 use Rattle.events.specs.declared.Event.{Event}
 use Rattle.link.specs.declared.Link.{Link}
 use Rattle.link.specs.declared.Stepped.{Stepped}
-use Rattle.link.specs.Counting.{zeroCounts, countsAfter}
 use Rattle.link.specs.Handling.{freshLink}
-use Rattle.link.specs.Stepping.{answerOf, stepOf}
-
-pub no-counts : Only (λ (r : Counts). r ≡ zeroCounts)
-no-counts = only zeroCounts
-
-pub counted : (c : Counts) (a : Answer) (e : Event) → Only (λ (r : Counts). r ≡ countsAfter c a e)
-counted c a e = only (countsAfter c a e)
+use Rattle.link.specs.Stepping.{answerOf, countsAfter, stepOf}
 
 pub fresh : Only (λ (r : Link). r ≡ freshLink)
 fresh = only freshLink
 
 pub respond : (l : Link) (c : Counts) (e : Event) → Only (λ (r : Answer). r ≡ answerOf l c e)
 respond l c e = only (answerOf l c e)
+
+pub counted : (c : Counts) (a : Answer) (e : Event) → Only (λ (r : Counts). r ≡ countsAfter c a e)
+counted c a e = only (countsAfter c a e)
 
 pub step : (l : Link) (c : Counts) (e : Event) → Only (λ (r : Stepped). r ≡ stepOf l c e)
 step l c e = only (stepOf l c e)

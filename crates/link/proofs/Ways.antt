@@ -24,18 +24,19 @@ use Rattle.talk.specs.declared.Part.{Part}
 use Rattle.talk.specs.declared.Part.the-variants.{Target, Source, Length, Data, Sum}
 use Rattle.talk.specs.declared.Message.{Message}
 use Rattle.phases.specs.Phases.{isStarting, isQuiet, isHeld, isOpen, talking, holding, damaged}
-use Rattle.phases.specs.Moves.{still, isSilent, afterSilence, afterP2, afterP3, sinceOrigin, afterWindow}
-use Rattle.phases.specs.Moves.{reasonAtFirst, firstByte, laterByte, byteIn, afterByte, afterStop}
+use Rattle.moves.specs.Moves.{still, isSilent, afterSilence, afterP2, afterP3, sinceOrigin, afterWindow}
+use Rattle.moves.specs.Moves.{reasonAtFirst, firstByte, laterByte, byteIn, afterByte, afterStop}
 use Rattle.phases.specs.declared.State.{State}
 use Rattle.phases.specs.declared.State.the-variants.{Down, Starting, Quiet, Held, Damage}
 use Rattle.phases.specs.declared.Phase.{Phase}
-use Rattle.link.specs.Handling.{noReports, moved, passed, hearing, byteHeard, actedBy, acted, handled, markAfter, linkAfter}
+use Rattle.reports.specs.Reporting.{moved}
+use Rattle.link.specs.Handling.{passed, hearing, byteHeard, actedBy, acted, handled, markAfter, linkAfter}
 use Rattle.link.specs.Handling.{begun as begins}
 use Rattle.link.specs.Stepping.{numberOf, takenBy, answerOf}
 use Rattle.link.specs.Quick.{limitOf, calmIn, isCalm, wentOn, goesOn, isFirstByte}
 use Rattle.link.specs.declared.Link.{Link}
-use Rattle.link.specs.declared.Counts.{Counts}
-use Rattle.link.specs.declared.Run.{Run}
+use Rattle.reports.specs.declared.Counts.{Counts}
+use Rattle.reports.specs.declared.Run.{Run}
 
 -- ---- tests that fail
 off : {A : Type 0} (b : Bool) (x y : A) → b ≡ false → (if b then x else y) ≡ y

@@ -1,4 +1,3 @@
 pub mod Handling
-pub mod Counting
 pub mod Stepping
 pub mod Quick

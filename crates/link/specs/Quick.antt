@@ -17,11 +17,11 @@ use Rattle.starts.specs.Starts.{isOver}
 use Rattle.talk.specs.Talk.{isFirst, isInside}
 use Rattle.talk.specs.declared.Message.{Message}
 use Rattle.phases.specs.Phases.{isHeld, isQuiet}
-use Rattle.phases.specs.Moves.{isSilent, sinceOrigin}
+use Rattle.moves.specs.Moves.{isSilent, sinceOrigin}
 use Rattle.phases.specs.declared.State.{State}
 use Rattle.phases.specs.declared.State.the-variants.{Down, Starting, Quiet, Held, Damage}
 use Rattle.phases.specs.declared.Phase.{Phase}
-use Rattle.link.specs.Handling.{noReports}
+use Rattle.reports.specs.Reporting.{noReports}
 use Rattle.link.specs.declared.Link.{Link}
 use Rattle.link.specs.declared.Answer.{Answer}
 

@@ -1,15 +1,15 @@
 -- A step of the link: any link, any counts, any event. Assumes nothing.
 use Prim.Native.Nat.{ℕ}
-use mathlib.Core.Bool.{Bool, true, false}
 use lib.Dec.{eqb}
 use Rattle.base.specs.Choice.{if_then_else_}
 use Rattle.base.specs.Numbers.{taken}
-use Rattle.events.specs.Events.{refusal}
+use Rattle.events.specs.Events.{isByte, refusal}
 use Rattle.events.specs.declared.Event.{Event}
-use Rattle.link.specs.Handling.{noReports, handled, linkAfter}
-use Rattle.link.specs.Counting.{isFull, countsAfter}
+use Rattle.reports.specs.Reporting.{noReports}
+use Rattle.reports.specs.declared.Counts.{Counts}
+use Rattle.reports.specs.Counting.{isFull, countedEvent}
+use Rattle.link.specs.Handling.{handled, linkAfter}
 use Rattle.link.specs.declared.Link.{Link}
-use Rattle.link.specs.declared.Counts.{Counts}
 use Rattle.link.specs.declared.Answer.{Answer}
 use Rattle.link.specs.declared.Stepped.{Stepped}
 
@@ -26,6 +26,10 @@ takenBy l e = record { link = linkAfter l e (handled l e); reports = handled l e
 
 unfoldable pub answerOf : Link → Counts → Event → Answer
 answerOf l c e = if eqb (numberOf l c e) taken then takenBy l e else refusedBy l (numberOf l c e)
+
+-- "The counts are a record the host lends, brought up to date there": by an event that was taken and its reports
+unfoldable pub countsAfter : Counts → Answer → Event → Counts
+countsAfter c a e = if eqb (a .no) taken then countedEvent c (isByte (e .kind)) (a .reports) else c
 
 -- A STEP: the answer, and the counts brought up to date
 unfoldable pub stepOf : Link → Counts → Event → Stepped

@@ -4,10 +4,10 @@ ghost use mathlib.Core.Path.{_≡_};
 ghost use Rattle.link.specs.Quick.{limitOf, isCalm, wentOn, goesOn, isFirstByte};
 use crate::Answer;
 use crate::Link;
-use crate::telling::no_reports;
 use events::Event;
 use phases::Phase;
 use phases::State;
+use reports::no_reports;
 use timing::Limit;
 use units::Micros;
 
@@ -32,7 +32,7 @@ pub(crate) fn is_calm(p: Phase, mark: Micros, start: Micros) -> bool
     match state {
         State::Down => true,
         State::Starting => {
-            let over = starts::is_past(s, phases::since_origin(p, mark, start));
+            let over = starts::is_past(s, moves::since_origin(p, mark, start));
             !over
         }
         State::Quiet => {
@@ -40,11 +40,11 @@ pub(crate) fn is_calm(p: Phase, mark: Micros, start: Micros) -> bool
             !over
         }
         State::Held => {
-            let over = phases::is_silent(units::gap(mark, start));
+            let over = moves::is_silent(units::gap(mark, start));
             !over
         }
         State::Damage => {
-            let over = phases::is_silent(units::gap(mark, start));
+            let over = moves::is_silent(units::gap(mark, start));
             !over
         }
     }
@@ -80,7 +80,7 @@ pub(crate) fn goes_on(l: Link, e: Event) -> bool
     let side = e.side;
     let whose = m.side;
     let part = m.part;
-    let over = phases::is_silent(units::gap(l.mark, e.start));
+    let over = moves::is_silent(units::gap(l.mark, e.start));
     events::is_byte(kind)
         & phases::is_held(state)
         & !over

@@ -1,22 +1,20 @@
 // A step of the link.
 ghost use mathlib.Core.Path.{_≡_};
 ghost use Rattle.link.specs.Handling.{freshLink, passed, shut, hearing, byteHeard, acted, begun, handled, markAfter, linkAfter};
-ghost use Rattle.link.specs.Stepping.{numberOf, refusedBy, takenBy, answerOf, stepOf};
+ghost use Rattle.link.specs.Stepping.{numberOf, refusedBy, takenBy, answerOf, countsAfter, stepOf};
 use crate::Answer;
-use crate::Counts;
 use crate::Link;
-use crate::Run;
 use crate::Stepped;
-use crate::counting::counted;
-use crate::counting::is_full;
 use crate::quick::go_on;
 use crate::quick::goes_on;
 use crate::quick::is_calm;
 use crate::quick::is_first_byte;
-use crate::telling::make;
-use crate::telling::no_reports;
 use events::Event;
 use events::Kind;
+use reports::Counts;
+use reports::Run;
+use reports::make;
+use reports::no_reports;
 use units::Micros;
 
 // A fresh link.
@@ -42,13 +40,13 @@ fn pass(r: Run, mark: Micros, start: Micros) -> Run
         return r;
     }
     let gap = units::gap(mark, start);
-    let r1 = make(r, phases::after_silence(p, gap));
+    let r1 = make(r, moves::after_silence(p, gap));
     let p1 = r1.phase;
-    let r2 = make(r1, phases::after_p2(p1, gap));
+    let r2 = make(r1, moves::after_p2(p1, gap));
     let p2 = r2.phase;
-    let r3 = make(r2, phases::after_p3(p2, gap));
+    let r3 = make(r2, moves::after_p3(p2, gap));
     let p3 = r3.phase;
-    make(r3, phases::after_window(p3, mark, start))
+    make(r3, moves::after_window(p3, mark, start))
 }
 
 // What is open is closed, and a connected link goes down.
@@ -56,9 +54,9 @@ fn shut_all(r: Run, reason: u8) -> Run
     ensures { λ x. ⌜ x ≡ shut r reason ⌝ }
 {
     let p = r.phase;
-    let r1 = make(r, phases::close_open(p));
+    let r1 = make(r, moves::close_open(p));
     let p1 = r1.phase;
-    make(r1, phases::leave(p1, reason))
+    make(r1, moves::leave(p1, reason))
 }
 
 // A byte is heard.
@@ -83,9 +81,9 @@ fn hear_byte(r: Run, e: Event, mark: Micros) -> Run
 {
     let p = r.phase;
     let side = e.side;
-    let r1 = make(hear(r), phases::after_byte(p, side, e.value, mark, e.start));
+    let r1 = make(hear(r), moves::after_byte(p, side, e.value, mark, e.start));
     let p1 = r1.phase;
-    make(r1, phases::after_stop(p1))
+    make(r1, moves::after_stop(p1))
 }
 
 // An event acts.
@@ -96,11 +94,11 @@ fn act(r: Run, e: Event, mark: Micros) -> Run
     match kind {
         Kind::Address => make(
             shut_all(r, base::reason::RESTARTED),
-            phases::starting_slow(e.value, mark, e.start),
+            moves::starting_slow(e.value, mark, e.start),
         ),
         Kind::WakeUp => make(
             shut_all(r, base::reason::RESTARTED),
-            phases::starting_fast(mark, e.start, e.end),
+            moves::starting_fast(mark, e.start, e.end),
         ),
         Kind::Byte => hear_byte(r, e, mark),
         Kind::Tick => r,
@@ -162,7 +160,7 @@ fn finish(l: Link, e: Event, r: Run) -> Link
 fn number(l: Link, c: Counts, e: Event) -> u8
     ensures { λ x. ⌜ x ≡ numberOf l c e ⌝ }
 {
-    events::refused(l.clock, is_full(l.taken, c), e)
+    events::refused(l.clock, reports::is_full(l.taken, c), e)
 }
 
 // A refused event.
@@ -207,10 +205,22 @@ pub fn respond(l: Link, c: Counts, e: Event) -> Answer
         return go_on(
             l,
             e,
-            phases::first_byte(p, side, e.value, units::gap(l.mark, e.start)),
+            moves::first_byte(p, side, e.value, units::gap(l.mark, e.start)),
         );
     }
     take(l, e)
+}
+
+// The counts after an event, by its answer.
+pub fn counted(c: Counts, a: Answer, e: Event) -> Counts
+    ensures { λ x. ⌜ x ≡ countsAfter c a e ⌝ }
+{
+    let rs = a.reports;
+    let kind = e.kind;
+    if a.no == base::TAKEN {
+        return reports::count_event(c, events::is_byte(kind), rs);
+    }
+    c
 }
 
 // A step: the answer to an event, and the counts brought up to date.

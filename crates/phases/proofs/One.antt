@@ -5,51 +5,13 @@ use Prim.Native.Nat.{ℕ}
 use Rattle.base.proofs.One.{Only, only}
 use Rattle.talk.specs.declared.Message.{Message}
 use Rattle.units.specs.declared.Micros.{Micros}
-use Rattle.phases.specs.declared.Move.{Move}
 use Rattle.phases.specs.declared.Phase.{Phase}
-use Rattle.events.specs.declared.Side.{Side}
+use Rattle.starts.specs.declared.Start.{Start}
 use Rattle.phases.specs.declared.State.{State}
-use Rattle.phases.specs.Moves.{startingSlow, startingFast, firstByte, afterByte, afterStop, isSilent, afterSilence, afterP2, afterP3, sinceOrigin, afterWindow, closing, leaving}
-use Rattle.phases.specs.Phases.{isQuiet, isHeld, down, holding}
+use Rattle.phases.specs.Phases.{isStarting, isQuiet, isHeld, isOpen, down, starting, opened, holding, damaged, settled, framed}
 
-pub starting-slow : (address : ℕ) (mark start : Micros) → Only (λ (r : Move). r ≡ startingSlow address mark start)
-starting-slow address mark start = only (startingSlow address mark start)
-
-pub starting-fast : (mark fall rise : Micros) → Only (λ (r : Move). r ≡ startingFast mark fall rise)
-starting-fast mark fall rise = only (startingFast mark fall rise)
-
-pub first-byte : (p : Phase) (side : Side) (v : ℕ) (gap : Micros) → Only (λ (r : Phase). r ≡ firstByte p side v gap)
-first-byte p side v gap = only (firstByte p side v gap)
-
-pub after-byte : (p : Phase) (side : Side) (v : ℕ) (mark start : Micros) → Only (λ (r : Move). r ≡ afterByte p side v mark start)
-after-byte p side v mark start = only (afterByte p side v mark start)
-
-pub after-stop : (p : Phase) → Only (λ (r : Move). r ≡ afterStop p)
-after-stop p = only (afterStop p)
-
-pub is-silent : (gap : Micros) → Only (λ (r : Bool). r ≡ isSilent gap)
-is-silent gap = only (isSilent gap)
-
-pub after-silence : (p : Phase) (gap : Micros) → Only (λ (r : Move). r ≡ afterSilence p gap)
-after-silence p gap = only (afterSilence p gap)
-
-pub after-p2 : (p : Phase) (gap : Micros) → Only (λ (r : Move). r ≡ afterP2 p gap)
-after-p2 p gap = only (afterP2 p gap)
-
-pub after-p3 : (p : Phase) (gap : Micros) → Only (λ (r : Move). r ≡ afterP3 p gap)
-after-p3 p gap = only (afterP3 p gap)
-
-pub since-origin : (p : Phase) (mark time : Micros) → Only (λ (r : Micros). r ≡ sinceOrigin p mark time)
-since-origin p mark time = only (sinceOrigin p mark time)
-
-pub after-window : (p : Phase) (mark time : Micros) → Only (λ (r : Move). r ≡ afterWindow p mark time)
-after-window p mark time = only (afterWindow p mark time)
-
-pub close-open : (p : Phase) → Only (λ (r : Move). r ≡ closing p)
-close-open p = only (closing p)
-
-pub leave : (p : Phase) (reason : ℕ) → Only (λ (r : Move). r ≡ leaving p reason)
-leave p reason = only (leaving p reason)
+pub is-starting : (state : State) → Only (λ (r : Bool). r ≡ isStarting state)
+is-starting state = only (isStarting state)
 
 pub is-quiet : (state : State) → Only (λ (r : Bool). r ≡ isQuiet state)
 is-quiet state = only (isQuiet state)
@@ -57,8 +19,26 @@ is-quiet state = only (isQuiet state)
 pub is-held : (state : State) → Only (λ (r : Bool). r ≡ isHeld state)
 is-held state = only (isHeld state)
 
+pub is-open : (state : State) → Only (λ (r : Bool). r ≡ isOpen state)
+is-open state = only (isOpen state)
+
 pub go-down : Only (λ (r : Phase). r ≡ down)
 go-down = only down
 
+pub begin-start : (fall : Micros) (start : Start) → Only (λ (r : Phase). r ≡ starting fall start)
+begin-start fall start = only (starting fall start)
+
+pub open-up : (start : Start) → Only (λ (r : Phase). r ≡ opened start)
+open-up start = only (opened start)
+
 pub hold : (p : Phase) (m : Message) → Only (λ (r : Phase). r ≡ holding p m)
 hold p m = only (holding p m)
+
+pub damage : (p : Phase) (why : ℕ) → Only (λ (r : Phase). r ≡ damaged p why)
+damage p why = only (damaged p why)
+
+pub settle : (p : Phase) → Only (λ (r : Phase). r ≡ settled p)
+settle p = only (settled p)
+
+pub end-frame : (p : Phase) → Only (λ (r : Phase). r ≡ framed p)
+end-frame p = only (framed p)

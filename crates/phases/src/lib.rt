@@ -1,26 +1,18 @@
-// What a link is at, and what time, a closing event, a start and a byte do to it.
-mod actions;
-mod moves;
+// What a link is at: a state by name, beside what each state uses.
 mod states;
 
-pub use actions::after_byte;
-pub use actions::after_stop;
-pub use actions::first_byte;
-pub use actions::starting_fast;
-pub use actions::starting_slow;
-pub use moves::after_p2;
-pub use moves::after_p3;
-pub use moves::after_silence;
-pub use moves::after_window;
-pub use moves::close_open;
-pub use moves::is_silent;
-pub use moves::leave;
-pub use moves::since_origin;
 use starts::Start;
+pub use states::begin_start;
+pub use states::damage;
+pub use states::end_frame;
 pub use states::go_down;
 pub use states::hold;
 pub use states::is_held;
+pub use states::is_open;
 pub use states::is_quiet;
+pub use states::is_starting;
+pub use states::open_up;
+pub use states::settle;
 use talk::Message;
 use talk::Reply;
 use talk::Request;
@@ -50,11 +42,4 @@ pub struct Phase {
     pub request: Request,
     // an initialization; its key bytes are the link's once it is connected
     pub start: Start,
-}
-
-// A rule's outcome: the phase behind it, and a report, none if its number is 0.
-pub struct Move {
-    pub phase: Phase,
-    pub number: u8,
-    pub reason: u8,
 }

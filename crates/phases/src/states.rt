@@ -14,7 +14,7 @@ use timing::Windows;
 use units::Micros;
 
 // Whether a link is in an initialization.
-pub(crate) fn is_starting(state: State) -> bool
+pub fn is_starting(state: State) -> bool
     ensures { λ r. ⌜ r ≡ isStarting state ⌝ }
 {
     match state {
@@ -53,7 +53,7 @@ pub fn is_held(state: State) -> bool
 }
 
 // Whether a link holds a message or skips damage.
-pub(crate) fn is_open(state: State) -> bool
+pub fn is_open(state: State) -> bool
     ensures { λ r. ⌜ r ≡ isOpen state ⌝ }
 {
     match state {
@@ -119,14 +119,14 @@ pub fn go_down() -> Phase
 }
 
 // In an initialization.
-pub(crate) fn begin_start(fall: Micros, start: Start) -> Phase
+pub fn begin_start(fall: Micros, start: Start) -> Phase
     ensures { λ r. ⌜ r ≡ starting fall start ⌝ }
 {
     unconnected_at(State::Starting, fall, start)
 }
 
 // Just connected.
-pub(crate) fn open_up(start: Start) -> Phase
+pub fn open_up(start: Start) -> Phase
     ensures { λ r. ⌜ r ≡ opened start ⌝ }
 {
     Phase {
@@ -170,7 +170,7 @@ pub fn hold(p: Phase, m: Message) -> Phase
 }
 
 // With damage being skipped.
-pub(crate) fn damage(p: Phase, why: u8) -> Phase
+pub fn damage(p: Phase, why: u8) -> Phase
     ensures { λ r. ⌜ r ≡ damaged p why ⌝ }
 {
     let reply = p.reply;
@@ -180,7 +180,7 @@ pub(crate) fn damage(p: Phase, why: u8) -> Phase
 }
 
 // With nothing open, and no reply expected.
-pub(crate) fn settle(p: Phase) -> Phase
+pub fn settle(p: Phase) -> Phase
     ensures { λ r. ⌜ r ≡ settled p ⌝ }
 {
     let m = p.message;
@@ -229,7 +229,7 @@ fn answer(p: Phase) -> Phase
 }
 
 // After the frame that was held.
-pub(crate) fn end_frame(p: Phase) -> Phase
+pub fn end_frame(p: Phase) -> Phase
     ensures { λ r. ⌜ r ≡ framed p ⌝ }
 {
     let m = p.message;

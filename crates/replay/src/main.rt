@@ -5,10 +5,10 @@
 use events::Event;
 use libc::STDIN_FILENO;
 use libc::STDOUT_FILENO;
-use link::Counts;
+use reports::Counts;
 use link::Link;
-use link::Report;
-use link::Reports;
+use reports::Report;
+use reports::Reports;
 use units::Micros;
 
 // A link, with the counts that it is lent.
@@ -118,7 +118,7 @@ fn print_end(s: Session) {
 fn fresh() -> Session {
     Session {
         link: link::fresh(),
-        counts: link::no_counts(),
+        counts: reports::no_counts(),
     }
 }
 

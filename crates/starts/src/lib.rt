@@ -41,14 +41,14 @@ struct Due {
     side: Side,
 }
 
-// How far an initialization has come: the stage, the address of a slow one, the sum of a fast one's
-// bytes so far, and its key bytes as far as they have come.
+// How far an initialization has come: its key bytes as far as they have come, the address of a slow
+// one, the sum of a fast one's bytes so far, the stage.
 pub struct Start {
-    pub stage: Stage,
-    pub address: u8,
-    pub sum: u8,
     pub kb1: u8,
     pub kb2: u8,
+    pub address: u8,
+    pub sum: u8,
+    pub stage: Stage,
 }
 
 // A byte of a side, in a window.

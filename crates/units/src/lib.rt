@@ -1,7 +1,7 @@
 // Microseconds, and the steps that timing codes count in. One is turned into another only here:
 // whoever else holds a time or a number of steps holds it in its own type.
 ghost use mathlib.Core.Path.{_≡_};
-ghost use Prim.Native.Nat.{_<_, _-_};
+ghost use Prim.Native.Nat.{_<_};
 ghost use Rattle.units.specs.Units.{halfBy, step250By, byteOf, microsOfHalf, microsOf25, microsOf250};
 ghost use Rattle.units.specs.Units.{wholeSteps, halfOf, steps25Of, steps250Of, isEarlier, isSame, gapOf};
 
@@ -136,16 +136,9 @@ pub fn same(a: Micros, b: Micros) -> bool
     a.0 == b.0
 }
 
-// One number less another, and 0 where that is more.
-fn less(a: u64, b: u64) -> u64
-    ensures { λ r. ⌜ r ≡ a - b ⌝ }
-{
-    if b <= a { a - b } else { 0 }
-}
-
 // The time from one time to a later one, and 0 where it is not later.
 pub fn gap(from: Micros, to: Micros) -> Micros
     ensures { λ r. ⌜ r ≡ gapOf from to ⌝ }
 {
-    Micros(less(to.0, from.0))
+    Micros(base::less(to.0, from.0))
 }

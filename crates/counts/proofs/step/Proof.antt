@@ -41,15 +41,15 @@ use denote.Triple.Table.{entered, cited}
 use denote.Triple.Walked.{says, Stays, stay-ref, stay-none, walkOf, AllGo, goes-none, goes-ref, Walks, ends-at, walked, walk-meets}
 use denote.Triple.Clauses.{ensured, lasts}
 use denote.Exit.{yes}
-use Rattle.link.specs.declared.Counts.{Counts}
+use Rattle.reports.specs.declared.Counts.{Counts}
 use Rattle.link.specs.declared.Link.{Link}
 use Rattle.events.specs.declared.Event.{Event}
 use Rattle.link.specs.declared.Answer.{Answer}
-use Rattle.link.specs.Counting.{countsAfter}
+use Rattle.link.specs.Stepping.{countsAfter}
 use Rattle.link.specs.Stepping.{answerOf, stepOf}
 use Rattle.counts.specs.Lent.{Steps}
-use Rattle.link.proofs.Counts as T
-use Rattle.link.proofs.Counts.Laws as T′
+use Rattle.reports.proofs.Counts as T
+use Rattle.reports.proofs.Counts.Laws as T′
 use Rattle.link.proofs.Link as L
 use Rattle.link.proofs.Link.Laws as L′
 use Rattle.events.proofs.Event as E

@@ -1,0 +1,18 @@
+-- `moves::passing::leave` meets its contract: at each return, the tests and matches on the way there pick the case of the definition.
+-- Assumes nothing.
+use borrow.Author.Needs.{needs}
+use Rattle.moves.specs.Moves.{leaving}
+use Rattle.moves.proofs.passing.leave.Statement.{statement}
+use Rattle.moves.proofs.passing.leave.Tie as tie
+
+pub leave-spec : {M : Type 1} → statement M
+unfolding leaving
+leave-spec =
+    tie.close
+    (tie.spec
+    (λ c κs. search needs)
+    (λ c κs. search needs)
+    (λ c κs. search needs)
+    (λ c. rw (c .making .ensures, ← (c .before .before .before .is-quiet .ensures), c .before .before .if1 .taken, ← (c .before .go-down .ensures)))
+    (λ c κs. search needs)
+    (λ c. rw (c .stay .ensures, ← (c .before .before .is-quiet .ensures), c .before .if1 .left)))

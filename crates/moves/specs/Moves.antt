@@ -1,0 +1,133 @@
+-- What time, a closing event, a start and a byte do to a link: each rule is a move, a report (none if its number is 0) and the phase behind it
+-- (document 01, "Events and what the link does").
+-- Assumes nothing.
+use Prim.Native.Nat.{ℕ}
+use mathlib.Core.Bool.{Bool, true, false, not, _&&_, _||_}
+use lib.Dec.{eqb}
+use Rattle.base.specs.Choice.{if_then_else_}
+use Rattle.base.specs.Reports.{frameReport, damageReport, connectedReport, failedReport, outsideReport, noReplyReport, downReport, notIdleReport}
+use Rattle.base.specs.Reports.{noReason, brokenOff, closed, windowOver, wrongLow, stopped, idleOver}
+use Rattle.units.specs.Units.{micros, isEarlier, gapOf}
+use Rattle.units.specs.declared.Micros.{Micros}
+use Rattle.timing.specs.Timing.{isPassed}
+use Rattle.events.specs.declared.Side.{Side}
+use Rattle.starts.specs.Starts.{originOf, judged, isOver, isLast, onward, slowStart, fastStart}
+use Rattle.talk.specs.Talk.{isFirst, firstReason, begun, laterReason, isSum, grown, isStopped}
+use Rattle.phases.specs.Phases.{isStarting, isQuiet, isHeld, isOpen, down, starting, opened, holding, damaged, settled, framed}
+use Rattle.phases.specs.declared.State.{State}
+use Rattle.phases.specs.declared.State.the-variants.{Down, Starting, Quiet, Held, Damage}
+use Rattle.phases.specs.declared.Phase.{Phase}
+use Rattle.moves.specs.declared.Move.{Move}
+
+-- no report
+abbrev pub still : Phase → Move
+still p = record { phase = p; number = 0; reason = noReason }
+
+-- a report
+abbrev pub makes : ℕ → ℕ → Phase → Move
+makes number reason p = record { phase = p; number = number; reason = reason }
+
+-- ---- time passes
+-- "20 ms passed since the mark with a message held: report 2, reason 1. With damage being skipped: report 2, its reason. After either, no reply is
+-- expected." "'Passed' is strict."
+abbrev pub byteGap : Micros
+byteGap = micros 20_000
+
+unfoldable pub isSilent : Micros → Bool
+isSilent gap = isEarlier byteGap gap
+
+-- the reason of a message held, or of damage
+unfoldable pub lossReason : Phase → ℕ → ℕ
+lossReason p reason = if isHeld (p .state) then reason else p .message .why
+
+unfoldable pub afterSilence : Phase → Micros → Move
+afterSilence p gap =
+    if isOpen (p .state) && isSilent gap then makes damageReport (lossReason p brokenOff) (settled p) else still p
+
+-- "First reply awaited and P2 max passed: report 6; no reply is expected." While something is open, this and the next rule rest: see DECISIONS.
+unfoldable pub afterP2 : Phase → Micros → Move
+afterP2 p gap =
+    if isQuiet (p .state) && isFirst (p .reply) && isPassed (p .windows .p2max) gap then makes noReplyReport noReason (settled p) else still p
+
+-- "Then, connected, no first reply awaited, P3 max passed: report 7 reason 2, down."
+unfoldable pub afterP3 : Phase → Micros → Move
+afterP3 p gap =
+    if isQuiet (p .state) && not (isFirst (p .reply)) && isPassed (p .windows .p3max) gap then makes downReport idleOver down else still p
+
+-- "In initialization, the present window's end passed: report 4 reason 1, down."
+unfoldable pub sinceOrigin : Phase → Micros → Micros → Micros
+sinceOrigin p mark time = gapOf (originOf (p .start .stage) (p .fall) mark) time
+
+unfoldable pub afterWindow : Phase → Micros → Micros → Move
+afterWindow p mark time =
+    if isStarting (p .state) && isOver (p .start) (sinceOrigin p mark time) then makes failedReport windowOver down else still p
+
+-- ---- closing
+-- "A, W or D then close what is open: a held message as report 2 reason 2, damage with its reason, initialization as report 4 reason 2"
+unfoldable pub closing : Phase → Move
+closing p =
+    if isOpen (p .state) then makes damageReport (lossReason p closed) (settled p) else
+    if isStarting (p .state) then makes failedReport closed down else still p
+
+-- "if connected, report 7 (reason 4 for A or W, 3 for D), down"
+unfoldable pub leaving : Phase → ℕ → Move
+leaving p reason = if isQuiet (p .state) then makes downReport reason down else still p
+
+-- ---- starts
+-- "A or W needs 300 ms from the old mark to its start, else report 8 and down; this is judged before the length of the low."
+abbrev pub idleTime : Micros
+idleTime = micros 300_000
+
+unfoldable pub isIdle : Micros → Micros → Bool
+isIdle mark start = not (isEarlier (gapOf mark start) idleTime)
+
+unfoldable pub startingSlow : ℕ → Micros → Micros → Move
+startingSlow address mark start =
+    if isIdle mark start then still (starting (micros 0) (slowStart address)) else makes notIdleReport noReason down
+
+-- "Low for 24 to 26 ms, else report 4 reason 3 at once."
+unfoldable pub isGoodLow : Micros → Micros → Bool
+isGoodLow fall rise = not (isEarlier (gapOf fall rise) (micros 24_000)) && not (isEarlier (micros 26_000) (gapOf fall rise))
+
+unfoldable pub startingFast : Micros → Micros → Micros → Move
+startingFast mark fall rise =
+    if not (isIdle mark fall) then makes notIdleReport noReason down else
+    if isGoodLow fall rise then still (starting fall fastStart) else makes failedReport wrongLow down
+
+-- ---- a byte
+-- "A byte that fails joins its initialization: report 4, down." "Success is report 3."
+unfoldable pub startByte : Phase → Side → ℕ → Micros → Move
+startByte p side v gap =
+    if not (eqb (judged (p .start) side v gap) noReason) then makes failedReport (judged (p .start) side v gap) down else
+    if isLast (p .start .stage) then makes connectedReport noReason (opened (p .start)) else
+    still (starting (p .fall) (onward (p .start) v))
+
+-- "First byte of a message": held, or damage with its reason
+unfoldable pub reasonAtFirst : Phase → Side → ℕ → Micros → ℕ
+reasonAtFirst p side v gap = firstReason (p .start .kb1) (p .reply) (p .windows) side v gap
+
+unfoldable pub firstByte : Phase → Side → ℕ → Micros → Phase
+firstByte p side v gap =
+    if eqb (reasonAtFirst p side v gap) noReason then holding p (begun side v) else damaged p (reasonAtFirst p side v gap)
+
+-- a later one: damage, the message's end ("A right checksum is report 1"), or one byte more
+unfoldable pub laterByte : Phase → Side → ℕ → Move
+laterByte p side v =
+    if not (eqb (laterReason (p .message) side v) noReason) then still (damaged p (laterReason (p .message) side v)) else
+    if isSum (p .message .part) then makes frameReport noReason (framed p) else
+    still (holding p (grown (p .message) v))
+
+-- "Down. .. Each byte is report 5."
+abbrev pub byteIn : State → Phase → Side → ℕ → Micros → Micros → Move
+byteIn Down p side v mark start = makes outsideReport noReason down
+byteIn Starting p side v mark start = startByte p side v (sinceOrigin p mark start)
+byteIn Quiet p side v mark start = still (firstByte p side v (gapOf mark start))
+byteIn Held p side v mark start = laterByte p side v
+byteIn Damage p side v mark start = still p
+
+unfoldable pub afterByte : Phase → Side → ℕ → Micros → Micros → Move
+afterByte p side v mark start = byteIn (p .state) p side v mark start
+
+-- "a unit frame starting C2 after a tester frame starting 82: report 1, then 7 reason 1, down"
+unfoldable pub afterStop : Phase → Move
+afterStop p = if isQuiet (p .state) && isStopped (p .request) then makes downReport stopped down else still p

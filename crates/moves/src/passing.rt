@@ -1,0 +1,153 @@
+// What passing time and a closing event do.
+ghost use mathlib.Core.Path.{_≡_};
+ghost use Rattle.moves.specs.Moves.{still, makes, isSilent, lossReason, afterSilence, afterP2, afterP3, sinceOrigin, afterWindow};
+ghost use Rattle.moves.specs.Moves.{closing, leaving};
+use crate::Move;
+use phases::Phase;
+use phases::go_down;
+use phases::is_held;
+use phases::is_open;
+use phases::is_quiet;
+use phases::is_starting;
+use phases::settle;
+use units::Micros;
+
+// 20 ms, after which a message or damage ends.
+const BYTE_GAP: u64 = 20_000;
+
+// No report.
+pub(crate) fn stay(p: Phase) -> Move
+    ensures { λ r. ⌜ r ≡ still p ⌝ }
+{
+    Move {
+        phase: p,
+        number: 0,
+        reason: base::reason::NONE,
+    }
+}
+
+// A report.
+pub(crate) fn making(number: u8, reason: u8, p: Phase) -> Move
+    ensures { λ r. ⌜ r ≡ makes number reason p ⌝ }
+{
+    Move {
+        phase: p,
+        number: number,
+        reason: reason,
+    }
+}
+
+// Whether a gap ends what is open.
+pub fn is_silent(gap: Micros) -> bool
+    ensures { λ r. ⌜ r ≡ isSilent gap ⌝ }
+{
+    units::earlier(Micros(BYTE_GAP), gap)
+}
+
+// The reason of a message held, or of damage.
+fn loss_reason(p: Phase, reason: u8) -> u8
+    ensures { λ r. ⌜ r ≡ lossReason p reason ⌝ }
+{
+    let state = p.state;
+    let m = p.message;
+    if is_held(state) {
+        return reason;
+    }
+    m.why
+}
+
+// 20 ms pass with something open.
+pub fn after_silence(p: Phase, gap: Micros) -> Move
+    ensures { λ r. ⌜ r ≡ afterSilence p gap ⌝ }
+{
+    let state = p.state;
+    let over = is_open(state) & is_silent(gap);
+    if over {
+        return making(
+            base::report::DAMAGE,
+            loss_reason(p, base::reason::BROKEN_OFF),
+            settle(p),
+        );
+    }
+    stay(p)
+}
+
+// P2 max passes while a first reply is awaited.
+pub fn after_p2(p: Phase, gap: Micros) -> Move
+    ensures { λ r. ⌜ r ≡ afterP2 p gap ⌝ }
+{
+    let state = p.state;
+    let reply = p.reply;
+    let w = p.windows;
+    let over = is_quiet(state) & talk::is_first(reply) & timing::passed(w.p2max, gap);
+    if over {
+        return making(base::report::NO_REPLY, base::reason::NONE, settle(p));
+    }
+    stay(p)
+}
+
+// P3 max passes while no first reply is awaited.
+pub fn after_p3(p: Phase, gap: Micros) -> Move
+    ensures { λ r. ⌜ r ≡ afterP3 p gap ⌝ }
+{
+    let state = p.state;
+    let reply = p.reply;
+    let w = p.windows;
+    let first = talk::is_first(reply);
+    let over = is_quiet(state) & !first & timing::passed(w.p3max, gap);
+    if over {
+        return making(base::report::DOWN, base::reason::IDLE_OVER, go_down());
+    }
+    stay(p)
+}
+
+// The time since an initialization's byte could come.
+pub fn since_origin(p: Phase, mark: Micros, time: Micros) -> Micros
+    ensures { λ r. ⌜ r ≡ sinceOrigin p mark time ⌝ }
+{
+    let s = p.start;
+    let stage = s.stage;
+    units::gap(starts::origin(stage, p.fall, mark), time)
+}
+
+// The present window of an initialization passes.
+pub fn after_window(p: Phase, mark: Micros, time: Micros) -> Move
+    ensures { λ r. ⌜ r ≡ afterWindow p mark time ⌝ }
+{
+    let state = p.state;
+    let s = p.start;
+    let over = is_starting(state) & starts::is_past(s, since_origin(p, mark, time));
+    if over {
+        return making(base::report::FAILED, base::reason::WINDOW_OVER, go_down());
+    }
+    stay(p)
+}
+
+// An address, a wake-up or a drop closes what is open.
+pub fn close_open(p: Phase) -> Move
+    ensures { λ r. ⌜ r ≡ closing p ⌝ }
+{
+    let state = p.state;
+    if is_open(state) {
+        return making(
+            base::report::DAMAGE,
+            loss_reason(p, base::reason::CLOSED),
+            settle(p),
+        );
+    }
+    if is_starting(state) {
+        return making(base::report::FAILED, base::reason::CLOSED, go_down());
+    }
+    stay(p)
+}
+
+// A connected link goes down.
+pub fn leave(p: Phase, reason: u8) -> Move
+    ensures { λ r. ⌜ r ≡ leaving p reason ⌝ }
+{
+    let state = p.state;
+    if is_quiet(state) {
+        return making(base::report::DOWN, reason, go_down());
+    }
+    stay(p)
+}
