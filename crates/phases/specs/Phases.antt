@@ -148,31 +148,28 @@ damaged p why = talking p Damage (p .reply) (withWhy (p .message) why)
 unfoldable pub settled : Phase → Phase
 settled p = talking p Quiet Never (p .message)
 
--- "A tester frame awaits a first reply; a unit frame allows further ones." The tester's is the latest request from now on; the unit's may make
--- the latest request take effect.
-unfoldable pub asked : Phase → Phase
-asked p = record {
-  windows = p .windows;
+-- other windows, and another latest request with its first seven data bytes
+unfoldable pub timed : Phase → Windows → ℕ → Request → Phase
+timed p windows seven request = record {
+  windows = windows;
   message = p .message;
   fall = p .fall;
-  asked = p .message .seven;
-  state = Quiet;
-  reply = First;
-  request = requestOf (p .message);
+  asked = seven;
+  state = p .state;
+  reply = p .reply;
+  request = request;
   start = p .start;
 }
 
+-- "A tester frame awaits a first reply": it is the latest request from now on, and the windows stay
+unfoldable pub asked : Phase → Phase
+asked p = timed (talking p Quiet First (p .message)) (p .windows) (p .message .seven) (requestOf (p .message))
+
+-- "a unit frame allows further ones": it may make the latest request take effect, "from this frame's end"
 unfoldable pub answered : Phase → Phase
-answered p = record {
-  windows = windowsAfter (p .request) (p .message) (p .start .kb1) (p .asked) (p .windows);
-  message = p .message;
-  fall = p .fall;
-  asked = p .asked;
-  state = Quiet;
-  reply = Further;
-  request = requestAfter (p .request) (p .message);
-  start = p .start;
-}
+answered p =
+    timed (talking p Quiet Further (p .message)) (windowsAfter (p .request) (p .message) (p .start .kb1) (p .asked) (p .windows)) (p .asked)
+    (requestAfter (p .request) (p .message))
 
 unfoldable pub framed : Phase → Phase
 framed p = if isTester (p .message .side) then asked p else answered p

@@ -1,7 +1,7 @@
 // The states by name, and the phases that a link moves to.
 ghost use mathlib.Core.Path.{_≡_};
 ghost use Rattle.phases.specs.Phases.{isStarting, isQuiet, isHeld, isOpen, noMessage, noWindows, unconnected, down, starting, opened};
-ghost use Rattle.phases.specs.Phases.{talking, holding, withWhy, damaged, settled, asked, answered, framed};
+ghost use Rattle.phases.specs.Phases.{talking, holding, withWhy, damaged, settled, timed, asked, answered, framed};
 use crate::Phase;
 use crate::State;
 use events::Side;
@@ -187,45 +187,47 @@ pub fn settle(p: Phase) -> Phase
     talk_on(p, State::Quiet, Reply::Never, m)
 }
 
+// With other windows, and another latest request.
+fn with_timing(p: Phase, windows: Windows, seven: u64, request: Request) -> Phase
+    ensures { λ r. ⌜ r ≡ timed p windows seven request ⌝ }
+{
+    let m = p.message;
+    let state = p.state;
+    let reply = p.reply;
+    let start = p.start;
+    let fall = p.fall;
+    Phase {
+        windows: windows,
+        message: m,
+        fall: fall,
+        asked: seven,
+        state: state,
+        reply: reply,
+        request: request,
+        start: start,
+    }
+}
+
 // After a tester frame.
 fn ask(p: Phase) -> Phase
     ensures { λ r. ⌜ r ≡ asked p ⌝ }
 {
-    let w = p.windows;
     let m = p.message;
-    let start = p.start;
-    let fall = p.fall;
-    Phase {
-        windows: w,
-        message: m,
-        fall: fall,
-        asked: m.seven,
-        state: State::Quiet,
-        reply: Reply::First,
-        request: talk::request_of(m),
-        start: start,
-    }
+    let w = p.windows;
+    let q = talk_on(p, State::Quiet, Reply::First, m);
+    with_timing(q, w, m.seven, talk::request_of(m))
 }
 
 // After a unit frame.
 fn answer(p: Phase) -> Phase
     ensures { λ r. ⌜ r ≡ answered p ⌝ }
 {
-    let w = p.windows;
     let m = p.message;
     let request = p.request;
     let start = p.start;
-    let fall = p.fall;
-    Phase {
-        windows: talk::windows_after(request, m, start.kb1, p.asked, w),
-        message: m,
-        fall: fall,
-        asked: p.asked,
-        state: State::Quiet,
-        reply: Reply::Further,
-        request: talk::request_after(request, m),
-        start: start,
-    }
+    let w = talk::windows_after(request, m, start.kb1, p.asked, p.windows);
+    let q = talk_on(p, State::Quiet, Reply::Further, m);
+    with_timing(q, w, p.asked, talk::request_after(request, m))
 }
 
 // After the frame that was held.

@@ -12,4 +12,6 @@ answer-spec =
     (tie.spec
     (λ c κs. search needs)
     (λ c κs. search needs)
-    (λ c. rw (c .request-after .ensures, ← (c .before .windows-after .ensures))))
+    (λ c κs. search needs)
+    (λ c κs. search needs)
+    (λ c. rw (c .with-timing .ensures, ← (c .before .before .before .windows-after .ensures), ← (c .before .before .talk-on .ensures), ← (c .before .request-after .ensures))))

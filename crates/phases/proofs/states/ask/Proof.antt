@@ -11,4 +11,6 @@ ask-spec =
     tie.close
     (tie.spec
     (λ c κs. search needs)
-    (λ c. rw (c .request-of .ensures)))
+    (λ c κs. search needs)
+    (λ c κs. search needs)
+    (λ c. rw (c .with-timing .ensures, ← (c .before .before .talk-on .ensures), ← (c .before .request-of .ensures))))
