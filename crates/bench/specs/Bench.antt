@@ -11,6 +11,7 @@ use Rattle.units.specs.Units.{micros}
 use Rattle.timing.specs.Timing.{untilTime, normalSet, p2MaxOf, notDecoded, decodedOf}
 use Rattle.timing.specs.declared.Codes.{Codes}
 use Rattle.timing.specs.declared.Decoded.{Decoded}
+use Rattle.starts.specs.Starts.{complement as inverse}
 use Rattle.frame.specs.Build.{planned, notBuilt, builtOf}
 use Rattle.frame.specs.Read.{notRead, readOf, dataOf}
 use Rattle.frame.specs.declared.Plan.{Plan}
@@ -27,7 +28,7 @@ pub data Row : Type 0 where
   -- these key bytes are good; these are 5, whatever is read or built
   good : ℕ → ℕ → Row
   five : ℕ → ℕ → Row
-  -- 255 minus the first is the second: plain arithmetic, until the link has its complements
+  -- 255 minus the first, as the slow start answers it, is the second
   complement : ℕ → ℕ → Row
   -- this code of P2 max is so many milliseconds; this one is refused beside any other codes
   p2max : ℕ → ℕ → Row
@@ -48,7 +49,7 @@ Says (five kb1 kb2) =
     (goodPair kb1 kb2 ≡ false)
     × ((s : List ℕ) → readOf kb1 kb2 s ≡ notRead badKeys)
     × ((form target source n room : ℕ) → builtOf (plan kb1 kb2 form target source) n room ≡ notBuilt badKeys)
-Says (complement x y) = 255 - x ≡ y
+Says (complement x y) = inverse x ≡ y
 Says (p2max code ms) = p2MaxOf code ≡ untilTime (micros (ms * 1_000))
 Says (p2max-refused code) = (a b c d : ℕ) → decodedOf (codes a code b c d) ≡ notDecoded
 Says (becomes c d) = decodedOf c ≡ d

@@ -16,7 +16,21 @@ struct Session {
 
 // The bytes of the example: the request, the reply, and the tester's first frame.
 const EXAMPLE: [u8; 15] = [
-    0x81, 0x11, 0xF1, 0x81, 0x04, 0x83, 0xF1, 0x11, 0xC1, 0xEF, 0x8F, 0xC4, 0x01, 0x3E, 0x3F,
+    0x81,
+    0x11,
+    0xF1,
+    0x81,
+    0x04,
+    0x83,
+    0xF1,
+    0x11,
+    0xC1,
+    0xEF,
+    0x8F,
+    0xC4,
+    0x01,
+    0x3E,
+    0x3F,
 ];
 
 // An event by the letters of its kind and side.
@@ -70,10 +84,7 @@ fn hear(s: Session, e: Event) -> Session {
     let l = a.link;
     let rs = a.reports;
     print_reports(rs);
-    Session {
-        link: l,
-        counts: c,
-    }
+    Session { link: l, counts: c }
 }
 
 fn fresh() -> Session {

@@ -5,8 +5,8 @@ ghost use Rattle.link.specs.Stepping.{answerOf};
 ghost use Rattle.counts.specs.Lent.{Steps};
 use events::Event;
 use link::Answer;
-use reports::Counts;
 use link::Link;
+use reports::Counts;
 
 // What an event is answered with, on plain values.
 fn answer_with(c: Counts, l: Link, e: Event) -> Answer

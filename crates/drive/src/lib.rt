@@ -2,10 +2,9 @@
 ghost use mathlib.Core.Path.{_≡_};
 ghost use Prim.Native.Nat.{_+_, _≤_};
 ghost use Rattle.drive.specs.Drive.{eventFrom, mixed, mixedReport, mixedReports, begins, drivenBy, eventAt, digestOf};
-
 use events::Event;
-use reports::Counts;
 use link::Link;
+use reports::Counts;
 use reports::Report;
 use reports::Reports;
 use units::Micros;
@@ -45,10 +44,7 @@ fn mix_report(digest: u32, x: Report) -> u32
     let t = x.time;
     mix(
         mix(
-            mix(
-                mix(mix(digest, x.number as u64), x.reason as u64),
-                x.first,
-            ),
+            mix(mix(mix(digest, x.number as u64), x.reason as u64), x.first),
             x.bytes,
         ),
         t.0,

@@ -1,2 +1,4 @@
 pub mod Ways
+pub mod Long
+pub mod Three
 pub mod One

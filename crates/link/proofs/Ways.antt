@@ -47,7 +47,7 @@ off-left : (a b : Bool) → a ≡ false → (a && b) ≡ false
 off-left true b e = absurd (false≢true (sym e))
 off-left false b e = refl
 
-off-right : (a b : Bool) → b ≡ false → (a && b) ≡ false
+pub off-right : (a b : Bool) → b ≡ false → (a && b) ≡ false
 off-right true b e = e
 off-right false b e = refl
 

@@ -5,12 +5,11 @@ mod stepping;
 use phases::Phase;
 use reports::Counts;
 use reports::Reports;
-use units::Micros;
-
 pub use stepping::counted;
 pub use stepping::fresh;
 pub use stepping::respond;
 pub use stepping::step;
+use units::Micros;
 
 // A link: its clock and mark, the events taken, the bytes heard, those that reports have named, and
 // what it is at.

@@ -2,8 +2,6 @@
 mod actions;
 mod passing;
 
-use phases::Phase;
-
 pub use actions::after_byte;
 pub use actions::after_stop;
 pub use actions::first_byte;
@@ -17,6 +15,7 @@ pub use passing::close_open;
 pub use passing::is_silent;
 pub use passing::leave;
 pub use passing::since_origin;
+use phases::Phase;
 
 // A rule's outcome: the phase behind it, and a report, none if its number is 0.
 pub struct Move {

@@ -5,8 +5,8 @@
 use events::Event;
 use libc::STDIN_FILENO;
 use libc::STDOUT_FILENO;
-use reports::Counts;
 use link::Link;
+use reports::Counts;
 use reports::Report;
 use reports::Reports;
 use units::Micros;

@@ -27,7 +27,14 @@ pub fn no_counts() -> Counts
 pub fn is_full(events: u64, c: Counts) -> bool
     ensures { λ r. ⌜ r ≡ isFull events c ⌝ }
 {
-    let all = events | c.heard | c.framed | c.damaged | c.started | c.outside | c.frames | c.damages;
+    let all = events
+        | c.heard
+        | c.framed
+        | c.damaged
+        | c.started
+        | c.outside
+        | c.frames
+        | c.damages;
     if all < MOST {
         return false;
     }

@@ -2,14 +2,13 @@
 mod counting;
 mod telling;
 
-use phases::Phase;
-use units::Micros;
-
 pub use counting::count_event;
 pub use counting::is_full;
 pub use counting::no_counts;
+use phases::Phase;
 pub use telling::make;
 pub use telling::no_reports;
+use units::Micros;
 
 // A report: the bytes it names by the first one's index and their number, the end time of its event,
 // its number and its reason.

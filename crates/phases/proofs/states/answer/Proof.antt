@@ -14,4 +14,4 @@ answer-spec =
     (λ c κs. search needs)
     (λ c κs. search needs)
     (λ c κs. search needs)
-    (λ c. rw (c .with-timing .ensures, ← (c .before .before .before .windows-after .ensures), ← (c .before .before .talk-on .ensures), ← (c .before .request-after .ensures))))
+    (λ c. rw (c .with-timing .ensures, c .before .request-after .ensures, c .before .before .talk-on .ensures, c .before .before .before .windows-after .ensures)))
