@@ -10,7 +10,7 @@ Use: tests/link_reference.py events > crates/replay/stdin
 import struct
 import sys
 
-from reference import EXTENDED, NO_LIMIT, NORMAL, bits, decode, forms_taken, is_good, read
+from reference import EXTENDED, GOOD_KB1, NO_LIMIT, NORMAL, bits, decode, forms_taken, is_good, read
 
 MOST = 4_000_000_000
 LATEST = 4_000_000_000_000
@@ -312,7 +312,21 @@ class Sessions:
         self.events.append(event)
         self.answers.append((self.link.event(*event), end))
 
+    def tick(self):
+        """A tick on or one beside the end of a window that is running."""
+        d, link = self.dice, self.link
+        ends = [20_000]
+        since = link.mark
+        if link.state == "init":
+            since, ends = link.origin(), [link.due[2], link.due[2], link.due[1]]
+        elif link.state == "up":
+            ends += [w for w in (link.windows[1], link.windows[3]) if w != NO_LIMIT]
+        at = max(since + d.pick(*ends) + d.pick(0, 1), link.clock)
+        self.send("T", "", 0, at, at)
+
     def byte(self, side, value, gap, since=None):
+        if self.dice.one_in(70):
+            self.tick()
         start = max((self.link.mark if since is None else since) + gap, self.link.clock)
         if self.dice.one_in(40) and start > self.link.clock:
             tick = self.link.clock + self.dice.below(start - self.link.clock + 1)
@@ -333,13 +347,15 @@ class Sessions:
 
     def initialize(self):
         d, link = self.dice, self.link
-        kb1 = d.pick(0xEF, 0xD5, 0xDF, 0xE9, 0x57, 0x6B, 0xD9, 0xE5, 0x67, 0xDA)
+        kb1, kb2 = d.pick(*GOOD_KB1), 0x8F
+        if d.one_in(12):
+            kb1, kb2 = d.pick((d.below(256), 0x8F), (kb1, d.below(256)))
         layout = d.pick(0x03, 0x00, 0x83, 0x80)
-        reply = [layout] + ([0xF1, 0x11] if layout >= 0x80 else []) + ([3] if layout % 0x80 == 0 else []) + [0xC1, kb1, 0x8F]
-        request = [d.pick(0x81, 0xC1), 0x11, 0xF1, 0x81]
+        reply = [layout] + ([d.below(256), d.below(256)] if layout >= 0x80 else []) + ([3] if layout % 0x80 == 0 else []) + [0xC1, kb1, kb2]
+        request = [d.pick(0x81, 0xC1), d.below(256), d.below(256), 0x81]
         script = request + [sum(request) % 256] + reply + [sum(reply) % 256]
         if link.fall is None:
-            script = [0x55, kb1, 0x8F, 0x70, 255 - self.address]
+            script = [0x55, kb1, kb2, 255 - kb2, 255 - self.address]
         for value in script:
             if link.state != "init":
                 return
@@ -347,15 +363,18 @@ class Sessions:
                 self.disturb()
                 continue
             side, lo, hi, _ = link.due
-            if d.one_in(80):
-                side = "e" if side == "t" else "t"
-            self.byte(side, self.spoiled(value), d.about(lo, hi), link.origin())
+            other = "e" if side == "t" else "t"
+            if d.one_in(60):  # several faults at once
+                self.byte(d.pick(side, other), value ^ 1, max(lo - 1, 0), link.origin())
+                continue
+            self.byte(other if d.one_in(80) else side, self.spoiled(value), d.about(lo, hi), link.origin())
 
     def frame(self, data):
         d, kb1 = self.dice, self.link.kb1
-        form = d.pick(*sorted(forms_taken(kb1))) if not d.one_in(60) else d.below(4)
+        form = d.pick(*sorted(forms_taken(kb1))) if not d.one_in(20) else d.pick(0, 1, 2, 2, 3)
         b = bits(kb1)
-        extra = (b[1] and (d.one_in(3) or not b[0])) if not d.one_in(60) else d.one_in(2)
+        extra = (b[1] and (d.one_in(3) or not b[0] or len(data) > 63)) if not d.one_in(30) else d.one_in(2)
+        data = data if extra else data[:63]
         top = [0x00, 0x80, 0xC0, 0x40][form]
         head = [top + (0 if extra else len(data) % 64)] + ([0x11, 0xF1] if form in (1, 2) else []) + ([len(data)] if extra else [])
         frame = head + data
@@ -374,11 +393,18 @@ class Sessions:
             self.byte(side, self.spoiled(value, 250), d.about(lo, hi) if first else d.pick(0, 0, 5000, 5000, 20_000, d.about(0, 20_000)))
             first = False
 
+    def whole(self, side, data, gap):
+        """A frame without addresses, its bytes end to end."""
+        frame = [len(data)] + data
+        for i, value in enumerate(frame + [sum(frame) % 256]):
+            start = max(self.link.mark + (0 if i else gap), self.link.clock)
+            self.send("B", side, value, start, start + 960)
+
     def exchange(self):
         d, link = self.dice, self.link
         kind = d.below(12)
-        asked = [0x21] + [d.below(256) for _ in range(d.pick(0, 1, 2, 6, 7, 20, 62))]
-        given = [0x61] + asked[1:]
+        asked = [0x21] + [d.below(256) for _ in range(d.pick(0, 1, 2, 5, 6, 7, 20, 61, 62, d.pick(62, 63, 127, 253, 254)))]
+        given = [0x61] + asked[1:9]
         if kind == 0:
             asked, given = [0x82] + asked[1:3], [0xC2] + asked[1:2]
         elif kind in (1, 2):
@@ -387,13 +413,17 @@ class Sessions:
             codes = d.pick([0x32, 0x02, 0x6E, 0x14, 0x0A], [0x00, 0x28, 0x0B, 0x14, 0x0A], [0x04, 0x01, 0x0C, 0x04, 0x04], [0, 0xFF, 0x10, 0xFF, 0], [0, 0xF1, 0x40, 0x01, 0x0A], [0x32, 0x02, 0x0A, 0x14, 0x0A], [d.below(256) for _ in range(5)])
             asked, given = [0x83, 0x03] + codes, [0xC3, 0x03]
         elif kind == 6:
-            asked, given = [0x83, 0x03], [0xC3, 0x03]
+            asked, given = [0x83, d.pick(1, 3)] + [0x10] * d.pick(0, 1, 4, 6), [0xC3, d.pick(1, 3)]
         _, _, p3min, p3max, _ = link.windows
         self.message("t", asked, p3min, d.pick(p3min + 10_000, p3max))
-        if link.state == "up" and not d.one_in(12):
-            for _ in range(d.pick(1, 1, 1, 2, 3)):
-                if link.state == "up":
-                    self.message("e", given if not d.one_in(20) else given + [1], link.windows[0], link.windows[1])
+        if link.state == "up" and d.one_in(12):
+            self.tick()
+            return
+        for _ in range(d.pick(1, 1, 1, 2, 3)):
+            if link.state == "up":
+                if d.one_in(8):  # an answer to something else, perhaps to an older request
+                    given = d.pick([0xC2], [0xC3, 0x01], [0xC3, 0x03], [0x7F, 0x83, 0x11])
+                self.message("e", given if not d.one_in(20) else given + [1], link.windows[0], link.windows[1])
 
     def disturb(self):
         d, link = self.dice, self.link
@@ -416,8 +446,12 @@ class Sessions:
 
     def refused(self, at):
         d = self.dice
-        r = d.below(6)
-        if r == 0:
+        r = d.below(8)
+        if r == 6:
+            self.send(d.pick("X", "T"), "", 0, LATEST + 2, LATEST + 1)
+        elif r == 7:
+            self.send("B", d.pick("x", "t"), 0, at + 1, d.pick(at, LATEST + 1))
+        elif r == 0:
             self.send("X", "", 0, at, at)
         elif r == 1:
             self.send("B", "x", 1, at, at)
@@ -441,6 +475,8 @@ class Sessions:
                 self.initialize()
             else:
                 self.exchange()
+        self.send("T", "", 0, LATEST, LATEST)
+        self.send("T", "", 0, LATEST + 1, LATEST + 1)
         return self
 
 
@@ -448,7 +484,6 @@ def example():
     """Document 01's own example."""
     s = Sessions(0)
     s.send("W", "", 0, 300_000, 325_000)
-    at = 350_000
     for side, at, gap, values in (("t", 350_000, 5000, "81 11 F1 81 04"), ("e", 404_800, 0, "83 F1 11 C1 EF 8F C4"), ("t", 466_520, 5000, "01 3E 3F")):
         for value in bytes.fromhex(values):
             s.send("B", side, value, at, at + 960)
@@ -457,12 +492,46 @@ def example():
     return s
 
 
+def scripts():
+    """Rare turns, one by one: a second address at the very end of the first one's window; a drop on a held message; 6 and 7 in one event; and a
+    late answer."""
+    s = Sessions(0)
+    s.send("A", "", 0x33, 300_000, 2_300_000)
+    s.send("A", "", 0x33, 2_600_000, 2_600_000)
+    s.send("W", "", 0, 2_900_000, 2_925_000)
+    s.send("W", "", 0, 3_225_000, 3_250_000)
+    t = example()
+    t.send("B", "t", 0x01, 600_000, 600_960)
+    t.send("D", "", 0, 620_960, 620_960)
+    u = example()
+    for i, value in enumerate((0x01, 0x3E, 0x3F)):
+        u.send("B", "t", value, 600_000 + 960 * i, 600_960 + 960 * i)
+    u.send("B", "e", 0x00, 6_000_000, 6_000_000)
+    v = example()  # an answer to a request that is no longer the latest: the old windows stay, and a byte after 10 ms is early
+    v.whole("t", [0x83, 0x03, 0x00, 0x28, 0x0B, 0x14, 0x0A], 60_000)
+    v.whole("e", [0x7F, 0x83, 0x11], 30_000)
+    v.whole("t", [0x3E], 60_000)
+    v.whole("e", [0xC3, 0x03], 30_000)
+    v.whole("t", [0x3E], 10_000)
+    return [s, t, u, v]
+
+
+# reports that must come up, and some that must come together in one event
+TOGETHER = {
+    ((6, 0), (7, 2)),
+    ((6, 0), (7, 2), (5, 0)),
+    ((2, 2), (7, 3)),
+    ((4, 2),),
+    ((4, 1), (5, 0)),
+    ((1, 0), (7, 1)),
+    ((2, 2), (7, 4), (8, 0)),
+}
 EVERY = {(1, 0), (3, 0), (5, 0), (6, 0), (8, 0)} | {(2, k) for k in range(1, 10)} | {(4, k) for k in range(1, 7)} | {(7, k) for k in range(1, 5)}
 
 
 def lists():
     """The event lists, each for a fresh link: the example, then made-up sessions."""
-    return [example()] + [Sessions(seed).run(600) for seed in range(1, 13)]
+    return [example()] + scripts() + [Sessions(seed).run(600) for seed in range(1, 31)]
 
 
 def pack(event):
@@ -474,8 +543,10 @@ def main(what):
     runs = lists()
     seen = {r[:2] for s in runs for (_, reports), _ in s.answers for r in reports}
     numbers = {no for s in runs for (no, _), _ in s.answers}
-    if EVERY - seen or {0, 1, 2, 3} - numbers:
-        sys.exit(f"the made-up lists reach no {sorted(EVERY - seen)} {sorted({0, 1, 2, 3} - numbers)}")
+    together = {tuple(r[:2] for r in reports) for s in runs for (_, reports), _ in s.answers}
+    missing = sorted(EVERY - seen) + sorted(TOGETHER - together) + sorted({0, 1, 2, 3} - numbers)
+    if missing:
+        sys.exit(f"the made-up lists do not reach {missing}")
     for s in runs:
         if what == "events":
             for event in s.events:

@@ -1,7 +1,7 @@
 -- The numbers that a caller may get back (document 01, "Numbers a caller may get back").
 -- "Where several apply, the smallest number is given": each definition that refuses asks its tests in the order of these numbers (of a slice that is
 -- empty, and so has no form, its length first).
--- "Beside a refusal every other number is 0": the refused answers (`notBuilt`, `notRead`, `notDecoded`, `notEncoded`) hold zeros.
+-- "Beside a refusal every other number is 0": the refused answers (`notBuilt`, `notRead`, `notDecoded`, `notEncoded`, `refusedBy`) hold zeros.
 -- Assumes nothing.
 use Prim.Native.Nat.{ℕ}
 

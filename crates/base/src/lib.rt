@@ -1,5 +1,5 @@
-// The numbers that a caller may get back, by name. What each means is said where it is given;
-// `specs/Numbers.antt` has the same table for the definitions.
+// The numbers that a caller may get back, by name (`specs/Numbers.antt` has the same table for the
+// definitions), and sums and choices that several crates use.
 ghost use mathlib.Core.Path.{_≡_};
 ghost use Prim.Native.Nat.{_-_};
 ghost use Rattle.base.specs.Choice.{if_then_else_};
@@ -51,7 +51,10 @@ pub fn either(first: bool, a: u8, b: u8) -> u8
 pub fn either64(first: bool, a: u64, b: u64) -> u64
     ensures { λ r. ⌜ r ≡ (if first then a else b) ⌝ }
 {
-    if first { a } else { b }
+    if first {
+        return a;
+    }
+    b
 }
 
 // The sum of two bytes modulo 256.

@@ -1,4 +1,5 @@
--- A link driven over a list of events in memory, three numbers each, and a digest of its reports. Assumes nothing.
+-- A link driven over a list of events in memory, three numbers each, and a digest of its reports. One or two numbers left over are not looked at, and
+-- a refused event adds nothing. Assumes nothing.
 use Prim.Native.Nat.{ℕ, zero, suc, _+_, _*_, _/_, _%_}
 use mathlib.Core.List.{List}
 use lib.ListN.{length, getD}
@@ -38,7 +39,7 @@ mixedReports digest rs =
     if eqb (rs .n) 2 then mixedReport (mixedReport digest (rs .a)) (rs .b) else
     mixedReport (mixedReport (mixedReport digest (rs .a)) (rs .b)) (rs .c)
 
--- a fresh link with zero counts; one event more; and all events up to the one at an index
+-- a fresh link with zero counts; one event more; the first k events
 unfoldable pub begins : Driven
 begins = record { link = freshLink; counts = zeroCounts; digest = 0 }
 

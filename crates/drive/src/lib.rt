@@ -1,4 +1,4 @@
-// A link driven over a list of events in memory, for hosts in C and for measuring.
+// A link driven over a list of events in memory, for measuring it from C.
 ghost use mathlib.Core.Path.{_≡_};
 ghost use Prim.Native.Nat.{_+_, _≤_};
 ghost use Rattle.drive.specs.Drive.{eventFrom, mixed, mixedReport, mixedReports, begins, drivenBy, eventAt, digestOf};

@@ -28,9 +28,9 @@ use Rattle.starts.specs.Starts.{judged, isOver, isLast}
 use Rattle.starts.specs.declared.Start.{Start}
 use Rattle.talk.specs.Talk.{isFirst, laterReason, isSum, isStopped, isEffective, codesIn, ifAllowed, windowsFor, windowsAfter}
 use Rattle.talk.specs.declared.Request.{Request}
-use Rattle.talk.specs.declared.Request.the-variants.{Ordinary, Stop, NormalTiming, NewTiming, Stopped}
+use Rattle.talk.specs.declared.Request.the-variants.{Ordinary, Stop, OwnTiming, NewTiming, Stopped}
 use Rattle.talk.specs.declared.Message.{Message}
-use Rattle.phases.specs.Phases.{isStarting, isQuiet, isOpen, down, starting, opened, talking, holding, damaged, settled, timed, asked, answered, framed}
+use Rattle.phases.specs.Phases.{isStarting, isQuiet, isOpen, down, starting, connected, talking, holding, damaged, settled, timed, asked, answered, framed}
 use Rattle.phases.specs.declared.State.{State}
 use Rattle.phases.specs.declared.State.the-variants.{Down, Starting, Quiet, Held, Damage}
 use Rattle.phases.specs.declared.Phase.{Phase}
@@ -83,9 +83,9 @@ starting-long : (fall : Micros) (start : Start) → Long (starting fall start)
 unfolding starting isConnected
 starting-long fall start h = absurd (false≢true h)
 
-opened-long : (start : Start) → Long (opened start)
-unfolding opened
-opened-long start h = set-long (start .kb1)
+connected-long : (start : Start) → Long (connected start)
+unfolding connected
+connected-long start h = set-long (start .kb1)
 
 settled-long : (p : Phase) → Long p → isConnected (p .state) ≡ true → Long (settled p)
 unfolding settled talking
@@ -124,7 +124,7 @@ windows-for : (request : Request) (kb1 seven : ℕ) (w : Windows) → LongEnough
 unfolding windowsFor
 windows-for Ordinary kb1 seven w g = g
 windows-for Stop kb1 seven w g = g
-windows-for NormalTiming kb1 seven w g = set-long kb1
+windows-for OwnTiming kb1 seven w g = set-long kb1
 windows-for NewTiming kb1 seven w g = allowed-long seven w g
 windows-for Stopped kb1 seven w g = g
 
@@ -192,7 +192,7 @@ start-keeps : (p : Phase) (side : Side) (v : ℕ) (gap : Micros) → LongMove (s
 unfolding startByte
 start-keeps p side v gap =
     by-test LongMove (not (eqb (judged (p .start) side v gap) noReason)) (λ _. down-long)
-    (λ _. by-test LongMove (isLast (p .start .stage)) (λ _. opened-long (p .start)) (λ _. starting-long _ _))
+    (λ _. by-test LongMove (isLast (p .start .stage)) (λ _. connected-long (p .start)) (λ _. starting-long _ _))
 
 first-keeps : (p : Phase) (side : Side) (v : ℕ) (gap : Micros) → Long p → isConnected (p .state) ≡ true → Long (firstByte p side v gap)
 unfolding firstByte

@@ -13,7 +13,7 @@ use Rattle.timing.specs.Timing.{isPassed}
 use Rattle.events.specs.declared.Side.{Side}
 use Rattle.starts.specs.Starts.{originOf, judged, isOver, isLast, onward, slowStart, fastStart}
 use Rattle.talk.specs.Talk.{isFirst, firstReason, begun, laterReason, isSum, grown, isStopped}
-use Rattle.phases.specs.Phases.{isStarting, isQuiet, isHeld, isOpen, down, starting, opened, holding, damaged, settled, framed}
+use Rattle.phases.specs.Phases.{isStarting, isQuiet, isHeld, isOpen, down, starting, connected, holding, damaged, settled, framed}
 use Rattle.phases.specs.declared.State.{State}
 use Rattle.phases.specs.declared.State.the-variants.{Down, Starting, Quiet, Held, Damage}
 use Rattle.phases.specs.declared.Phase.{Phase}
@@ -29,7 +29,7 @@ makes number reason p = record { phase = p; number = number; reason = reason }
 
 -- ---- time passes
 -- "20 ms passed since the mark with a message held: report 2, reason 1. With damage being skipped: report 2, its reason. After either, no reply is
--- expected." "'Passed' is strict."
+-- expected." "'Passed' is strict".
 abbrev pub byteGap : Micros
 byteGap = micros 20_000
 
@@ -69,7 +69,7 @@ closing p =
     if isOpen (p .state) then makes damageReport (lossReason p closed) (settled p) else
     if isStarting (p .state) then makes failedReport closed down else still p
 
--- "if connected, report 7 (reason 4 for A or W, 3 for D), down"
+-- "if connected, report 7 (reason 4 for A or W, 3 for D), down": behind `closing`, so that a connected link has nothing open
 unfoldable pub leaving : Phase → ℕ → Move
 leaving p reason = if isQuiet (p .state) then makes downReport reason down else still p
 
@@ -99,7 +99,7 @@ startingFast mark fall rise =
 unfoldable pub startByte : Phase → Side → ℕ → Micros → Move
 startByte p side v gap =
     if not (eqb (judged (p .start) side v gap) noReason) then makes failedReport (judged (p .start) side v gap) down else
-    if isLast (p .start .stage) then makes connectedReport noReason (opened (p .start)) else
+    if isLast (p .start .stage) then makes connectedReport noReason (connected (p .start)) else
     still (starting (p .fall) (onward (p .start) v))
 
 -- "First byte of a message": held, or damage with its reason
@@ -117,7 +117,7 @@ laterByte p side v =
     if isSum (p .message .part) then makes frameReport noReason (framed p) else
     still (holding p (grown (p .message) v))
 
--- "Down. .. Each byte is report 5."
+-- "Down, as a fresh link is. Each byte is report 5."
 abbrev pub byteIn : State → Phase → Side → ℕ → Micros → Micros → Move
 byteIn Down p side v mark start = makes outsideReport noReason down
 byteIn Starting p side v mark start = startByte p side v (sinceOrigin p mark start)

@@ -9,12 +9,12 @@ use events::Side;
 use phases::Phase;
 use phases::State;
 use phases::begin_start;
+use phases::connect;
 use phases::damage;
 use phases::end_frame;
 use phases::go_down;
 use phases::hold;
 use phases::is_quiet;
-use phases::open_up;
 use units::Micros;
 
 // The idle time before a start, and the least and the greatest low of a wake-up.
@@ -77,7 +77,7 @@ fn start_byte(p: Phase, side: Side, v: u8, gap: Micros) -> Move
         return making(base::report::FAILED, reason, go_down());
     }
     if starts::is_last(stage) {
-        return making(base::report::CONNECTED, base::reason::NONE, open_up(s));
+        return making(base::report::CONNECTED, base::reason::NONE, connect(s));
     }
     stay(begin_start(p.fall, starts::go_onward(s, v)))
 }

@@ -101,7 +101,7 @@ pub fn after_p3(p: Phase, gap: Micros) -> Move
     stay(p)
 }
 
-// The time since an initialization's byte could come.
+// The time since the origin of an initialization's next byte, the mark or the fall.
 pub fn since_origin(p: Phase, mark: Micros, time: Micros) -> Micros
     ensures { λ r. ⌜ r ≡ sinceOrigin p mark time ⌝ }
 {
@@ -141,7 +141,7 @@ pub fn close_open(p: Phase) -> Move
     stay(p)
 }
 
-// A connected link goes down.
+// A connected link with nothing open goes down.
 pub fn leave(p: Phase, reason: u8) -> Move
     ensures { λ r. ⌜ r ≡ leaving p reason ⌝ }
 {

@@ -8,7 +8,7 @@ use Rattle.units.specs.declared.Micros.{Micros}
 use Rattle.phases.specs.declared.Phase.{Phase}
 use Rattle.starts.specs.declared.Start.{Start}
 use Rattle.phases.specs.declared.State.{State}
-use Rattle.phases.specs.Phases.{isStarting, isQuiet, isHeld, isOpen, down, starting, opened, holding, damaged, settled, framed}
+use Rattle.phases.specs.Phases.{isStarting, isQuiet, isHeld, isOpen, down, starting, connected, holding, damaged, settled, framed}
 
 pub is-starting : (state : State) → Only (λ (r : Bool). r ≡ isStarting state)
 is-starting state = only (isStarting state)
@@ -28,8 +28,8 @@ go-down = only down
 pub begin-start : (fall : Micros) (start : Start) → Only (λ (r : Phase). r ≡ starting fall start)
 begin-start fall start = only (starting fall start)
 
-pub open-up : (start : Start) → Only (λ (r : Phase). r ≡ opened start)
-open-up start = only (opened start)
+pub connect : (start : Start) → Only (λ (r : Phase). r ≡ connected start)
+connect start = only (connected start)
 
 pub hold : (p : Phase) (m : Message) → Only (λ (r : Phase). r ≡ holding p m)
 hold p m = only (holding p m)

@@ -1,4 +1,4 @@
--- What a link is at: its state by name, beside what each state uses. What the present state does not use is carried along.
+-- What a link is at: its state by name, beside what each state uses. What a state of a connected link does not use is carried along.
 -- (document 01, "Events and what the link does")
 -- Assumes nothing.
 use Prim.Native.Nat.{ℕ}
@@ -24,7 +24,7 @@ use Rattle.phases.specs.declared.State.{State}
 use Rattle.phases.specs.declared.State.the-variants.{Down, Starting, Quiet, Held, Damage}
 use Rattle.phases.specs.declared.Phase.{Phase}
 
--- Down; in an initialization; connected with nothing open, with a message held, with damage being skipped. "Only a connected link holds a message."
+-- Down; in an initialization; connected with nothing open, with a message held, with damage being skipped. "Only a connected link holds a message".
 unfoldable pub isStarting : State → Bool
 isStarting Down = false
 isStarting Starting = true
@@ -46,6 +46,7 @@ isHeld Quiet = false
 isHeld Held = true
 isHeld Damage = false
 
+-- a message held or damage being skipped; an initialization is asked for by `isStarting`
 unfoldable pub isOpen : State → Bool
 isOpen Down = false
 isOpen Starting = false
@@ -98,8 +99,8 @@ starting fall start = unconnected Starting fall start
 
 -- ---- connected
 -- "Timing starts at the set KB1 names." No reply is expected yet.
-unfoldable pub opened : Start → Phase
-opened start = record {
+unfoldable pub connected : Start → Phase
+connected start = record {
   windows = setOf (start .kb1);
   message = noMessage;
   fall = micros 0;

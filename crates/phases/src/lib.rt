@@ -3,6 +3,7 @@ mod states;
 
 use starts::Start;
 pub use states::begin_start;
+pub use states::connect;
 pub use states::damage;
 pub use states::end_frame;
 pub use states::go_down;
@@ -11,7 +12,6 @@ pub use states::is_held;
 pub use states::is_open;
 pub use states::is_quiet;
 pub use states::is_starting;
-pub use states::open_up;
 pub use states::settle;
 use talk::Message;
 use talk::Reply;

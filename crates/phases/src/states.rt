@@ -1,6 +1,6 @@
 // The states by name, and the phases that a link moves to.
 ghost use mathlib.Core.Path.{_≡_};
-ghost use Rattle.phases.specs.Phases.{isStarting, isQuiet, isHeld, isOpen, noMessage, noWindows, unconnected, down, starting, opened};
+ghost use Rattle.phases.specs.Phases.{isStarting, isQuiet, isHeld, isOpen, noMessage, noWindows, unconnected, down, starting, connected};
 ghost use Rattle.phases.specs.Phases.{talking, holding, withWhy, damaged, settled, timed, asked, answered, framed};
 use crate::Phase;
 use crate::State;
@@ -126,8 +126,8 @@ pub fn begin_start(fall: Micros, start: Start) -> Phase
 }
 
 // Just connected.
-pub fn open_up(start: Start) -> Phase
-    ensures { λ r. ⌜ r ≡ opened start ⌝ }
+pub fn connect(start: Start) -> Phase
+    ensures { λ r. ⌜ r ≡ connected start ⌝ }
 {
     Phase {
         windows: timing::set_of(start.kb1),

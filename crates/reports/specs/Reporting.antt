@@ -1,4 +1,4 @@
--- Reports: what one says, and how a move is made of which it comes (document 01, "Events and what the link does"). One definition makes a report, one
+-- Reports: what one says, and how the move that it comes from is made (document 01, "Events and what the link does"). One definition makes a report, one
 -- appends it.
 -- Assumes nothing.
 use Prim.Native.Nat.{ℕ, _-_}
@@ -18,7 +18,7 @@ noReport = record { first = 0; bytes = 0; time = micros 0; number = 0; reason = 
 abbrev pub noReports : Reports
 noReports = record { a = noReport; b = noReport; c = noReport; n = 0 }
 
--- Reports 1 to 5 name the bytes held, 6, 7 and 8 none.
+-- Reports 1 to 5 name the bytes held, 6, 7 and 8 none. (0 is no report, and is not asked.)
 unfoldable pub namesBytes : ℕ → Bool
 namesBytes number = leb number 5
 

@@ -17,6 +17,8 @@ use Rattle.starts.specs.declared.Stage.{Stage}
 use Rattle.starts.specs.declared.Stage.the-variants.{Sync, FirstKey, SecondKey, KeyBack, AddressBack}
 use Rattle.starts.specs.declared.Stage.the-variants.{AskFormat, AskTarget, AskSource, AskService, AskSum}
 use Rattle.starts.specs.declared.Stage.the-variants.{Format, Target, Source, LongTarget, LongSource, Length, Service, KeyOne, KeyTwo, Sum}
+use Rattle.starts.specs.declared.Role.{Role}
+use Rattle.starts.specs.declared.Role.the-variants.{Opening, PairOne, PairTwo, RequestEnd, Ending, Passing}
 use Rattle.starts.specs.declared.Due.{Due}
 use Rattle.starts.specs.declared.Start.{Start}
 
@@ -50,31 +52,73 @@ dueAt KeyOne = due Unit 0 20_000
 dueAt KeyTwo = due Unit 0 20_000
 dueAt Sum = due Unit 0 20_000
 
--- Where the time runs from: the tester's first byte is timed from the fall of the wake-up, every other one from the mark.
-unfoldable pub isAskFormat : Stage → Bool
-isAskFormat Sync = false
-isAskFormat FirstKey = false
-isAskFormat SecondKey = false
-isAskFormat KeyBack = false
-isAskFormat AddressBack = false
-isAskFormat AskFormat = true
-isAskFormat AskTarget = false
-isAskFormat AskSource = false
-isAskFormat AskService = false
-isAskFormat AskSum = false
-isAskFormat Format = false
-isAskFormat Target = false
-isAskFormat Source = false
-isAskFormat LongTarget = false
-isAskFormat LongSource = false
-isAskFormat Length = false
-isAskFormat Service = false
-isAskFormat KeyOne = false
-isAskFormat KeyTwo = false
-isAskFormat Sum = false
+-- ---- what a stage's byte is to its initialization: the tester's first of a fast one, KB1, KB2, the checksum of the request, the last of all, or none of
+-- these
+unfoldable pub roleAt : Stage → Role
+roleAt Sync = Passing
+roleAt FirstKey = PairOne
+roleAt SecondKey = PairTwo
+roleAt KeyBack = Passing
+roleAt AddressBack = Ending
+roleAt AskFormat = Opening
+roleAt AskTarget = Passing
+roleAt AskSource = Passing
+roleAt AskService = Passing
+roleAt AskSum = RequestEnd
+roleAt Format = Passing
+roleAt Target = Passing
+roleAt Source = Passing
+roleAt LongTarget = Passing
+roleAt LongSource = Passing
+roleAt Length = Passing
+roleAt Service = Passing
+roleAt KeyOne = PairOne
+roleAt KeyTwo = PairTwo
+roleAt Sum = Ending
 
+unfoldable pub isOpening : Role → Bool
+isOpening Opening = true
+isOpening PairOne = false
+isOpening PairTwo = false
+isOpening RequestEnd = false
+isOpening Ending = false
+isOpening Passing = false
+
+unfoldable pub isPairOne : Role → Bool
+isPairOne Opening = false
+isPairOne PairOne = true
+isPairOne PairTwo = false
+isPairOne RequestEnd = false
+isPairOne Ending = false
+isPairOne Passing = false
+
+unfoldable pub isPairTwo : Role → Bool
+isPairTwo Opening = false
+isPairTwo PairOne = false
+isPairTwo PairTwo = true
+isPairTwo RequestEnd = false
+isPairTwo Ending = false
+isPairTwo Passing = false
+
+unfoldable pub isRequestEnd : Role → Bool
+isRequestEnd Opening = false
+isRequestEnd PairOne = false
+isRequestEnd PairTwo = false
+isRequestEnd RequestEnd = true
+isRequestEnd Ending = false
+isRequestEnd Passing = false
+
+unfoldable pub isEnding : Role → Bool
+isEnding Opening = false
+isEnding PairOne = false
+isEnding PairTwo = false
+isEnding RequestEnd = false
+isEnding Ending = true
+isEnding Passing = false
+
+-- Where the time runs from: the tester's first byte is timed from the fall of the wake-up, every other one from the mark.
 unfoldable pub originOf : Stage → Micros → Micros → Micros
-originOf stage fall mark = if isAskFormat stage then fall else mark
+originOf stage fall mark = if isOpening (roleAt stage) then fall else mark
 
 -- ---- which values fit
 -- "255 minus KB2", "255 minus address"
@@ -160,106 +204,21 @@ nextStage KeyOne v = KeyTwo
 nextStage KeyTwo v = Sum
 nextStage Sum v = Sum
 
--- the stages whose byte is the initialization's last, KB1, KB2, and the request's checksum
+-- the initialization's last byte
 unfoldable pub isLast : Stage → Bool
-isLast Sync = false
-isLast FirstKey = false
-isLast SecondKey = false
-isLast KeyBack = false
-isLast AddressBack = true
-isLast AskFormat = false
-isLast AskTarget = false
-isLast AskSource = false
-isLast AskService = false
-isLast AskSum = false
-isLast Format = false
-isLast Target = false
-isLast Source = false
-isLast LongTarget = false
-isLast LongSource = false
-isLast Length = false
-isLast Service = false
-isLast KeyOne = false
-isLast KeyTwo = false
-isLast Sum = true
-
-unfoldable pub isKeyOne : Stage → Bool
-isKeyOne Sync = false
-isKeyOne FirstKey = true
-isKeyOne SecondKey = false
-isKeyOne KeyBack = false
-isKeyOne AddressBack = false
-isKeyOne AskFormat = false
-isKeyOne AskTarget = false
-isKeyOne AskSource = false
-isKeyOne AskService = false
-isKeyOne AskSum = false
-isKeyOne Format = false
-isKeyOne Target = false
-isKeyOne Source = false
-isKeyOne LongTarget = false
-isKeyOne LongSource = false
-isKeyOne Length = false
-isKeyOne Service = false
-isKeyOne KeyOne = true
-isKeyOne KeyTwo = false
-isKeyOne Sum = false
-
-unfoldable pub isKeyTwo : Stage → Bool
-isKeyTwo Sync = false
-isKeyTwo FirstKey = false
-isKeyTwo SecondKey = true
-isKeyTwo KeyBack = false
-isKeyTwo AddressBack = false
-isKeyTwo AskFormat = false
-isKeyTwo AskTarget = false
-isKeyTwo AskSource = false
-isKeyTwo AskService = false
-isKeyTwo AskSum = false
-isKeyTwo Format = false
-isKeyTwo Target = false
-isKeyTwo Source = false
-isKeyTwo LongTarget = false
-isKeyTwo LongSource = false
-isKeyTwo Length = false
-isKeyTwo Service = false
-isKeyTwo KeyOne = false
-isKeyTwo KeyTwo = true
-isKeyTwo Sum = false
-
-unfoldable pub isAskSum : Stage → Bool
-isAskSum Sync = false
-isAskSum FirstKey = false
-isAskSum SecondKey = false
-isAskSum KeyBack = false
-isAskSum AddressBack = false
-isAskSum AskFormat = false
-isAskSum AskTarget = false
-isAskSum AskSource = false
-isAskSum AskService = false
-isAskSum AskSum = true
-isAskSum Format = false
-isAskSum Target = false
-isAskSum Source = false
-isAskSum LongTarget = false
-isAskSum LongSource = false
-isAskSum Length = false
-isAskSum Service = false
-isAskSum KeyOne = false
-isAskSum KeyTwo = false
-isAskSum Sum = false
+isLast stage = isEnding (roleAt stage)
 
 -- the sum of the request's bytes, and behind its checksum of the reply's
 unfoldable pub sumAfter : Start → ℕ → ℕ
-sumAfter s v = if isAskSum (s .stage) then 0 else byteSum (s .sum) v
+sumAfter s v = if isRequestEnd (roleAt (s .stage)) then 0 else byteSum (s .sum) v
 
 unfoldable pub onward : Start → ℕ → Start
 onward s v = record {
   stage = nextStage (s .stage) v;
   address = s .address;
   sum = sumAfter s v;
-  kb1 = if isKeyOne (s .stage) then v else s .kb1;
-  kb2 = if isKeyTwo (s .stage) then v else s .kb2;
+  kb1 = if isPairOne (roleAt (s .stage)) then v else s .kb1;
+  kb2 = if isPairTwo (roleAt (s .stage)) then v else s .kb2;
 }
 
 -- ---- how they begin: none, a slow one from its address, a fast one

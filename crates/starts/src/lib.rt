@@ -1,8 +1,9 @@
 // The two initializations, as the stages that each goes through.
 ghost use mathlib.Core.Path.{_≡_};
-ghost use Rattle.starts.specs.Starts.{due, dueAt, isAskFormat, originOf, complement, isReplyFormat, fits};
+ghost use Rattle.starts.specs.Starts.{roleAt, isOpening, isPairOne, isPairTwo, isRequestEnd, isEnding};
+ghost use Rattle.starts.specs.Starts.{due, dueAt, originOf, complement, isReplyFormat, fits};
 ghost use Rattle.starts.specs.Starts.{isFrom, isEarly, judged, isOver};
-ghost use Rattle.starts.specs.Starts.{afterFormat, nextStage, isLast, isKeyOne, isKeyTwo, isAskSum, sumAfter, onward};
+ghost use Rattle.starts.specs.Starts.{afterFormat, nextStage, isLast, sumAfter, onward};
 ghost use Rattle.starts.specs.Starts.{noStart, slowStart, fastStart};
 use events::Side;
 use units::Micros;
@@ -32,6 +33,17 @@ pub enum Stage {
     KeyOne,
     KeyTwo,
     Sum,
+}
+
+// What a stage's byte is to its initialization: the tester's first of a fast one, KB1, KB2, the
+// request's checksum, the last of all, or none of these.
+enum Role {
+    Opening,
+    PairOne,
+    PairTwo,
+    RequestEnd,
+    Ending,
+    Passing,
 }
 
 // What is expected of a byte: the window in which it starts, and its side.
@@ -90,31 +102,101 @@ fn due_at(stage: Stage) -> Due
     }
 }
 
-// Whether a stage's byte is the tester's first.
-fn is_ask_format(stage: Stage) -> bool
-    ensures { λ r. ⌜ r ≡ isAskFormat stage ⌝ }
+// What a stage's byte is to its initialization.
+fn role_at(stage: Stage) -> Role
+    ensures { λ r. ⌜ r ≡ roleAt stage ⌝ }
 {
     match stage {
-        Stage::Sync => false,
-        Stage::FirstKey => false,
-        Stage::SecondKey => false,
-        Stage::KeyBack => false,
-        Stage::AddressBack => false,
-        Stage::AskFormat => true,
-        Stage::AskTarget => false,
-        Stage::AskSource => false,
-        Stage::AskService => false,
-        Stage::AskSum => false,
-        Stage::Format => false,
-        Stage::Target => false,
-        Stage::Source => false,
-        Stage::LongTarget => false,
-        Stage::LongSource => false,
-        Stage::Length => false,
-        Stage::Service => false,
-        Stage::KeyOne => false,
-        Stage::KeyTwo => false,
-        Stage::Sum => false,
+        Stage::Sync => Role::Passing,
+        Stage::FirstKey => Role::PairOne,
+        Stage::SecondKey => Role::PairTwo,
+        Stage::KeyBack => Role::Passing,
+        Stage::AddressBack => Role::Ending,
+        Stage::AskFormat => Role::Opening,
+        Stage::AskTarget => Role::Passing,
+        Stage::AskSource => Role::Passing,
+        Stage::AskService => Role::Passing,
+        Stage::AskSum => Role::RequestEnd,
+        Stage::Format => Role::Passing,
+        Stage::Target => Role::Passing,
+        Stage::Source => Role::Passing,
+        Stage::LongTarget => Role::Passing,
+        Stage::LongSource => Role::Passing,
+        Stage::Length => Role::Passing,
+        Stage::Service => Role::Passing,
+        Stage::KeyOne => Role::PairOne,
+        Stage::KeyTwo => Role::PairTwo,
+        Stage::Sum => Role::Ending,
+    }
+}
+
+// Whether a byte is the tester's first.
+fn is_opening(role: Role) -> bool
+    ensures { λ r. ⌜ r ≡ isOpening role ⌝ }
+{
+    match role {
+        Role::Opening => true,
+        Role::PairOne => false,
+        Role::PairTwo => false,
+        Role::RequestEnd => false,
+        Role::Ending => false,
+        Role::Passing => false,
+    }
+}
+
+// Whether a byte is KB1.
+fn is_pair_one(role: Role) -> bool
+    ensures { λ r. ⌜ r ≡ isPairOne role ⌝ }
+{
+    match role {
+        Role::Opening => false,
+        Role::PairOne => true,
+        Role::PairTwo => false,
+        Role::RequestEnd => false,
+        Role::Ending => false,
+        Role::Passing => false,
+    }
+}
+
+// Whether a byte is KB2.
+fn is_pair_two(role: Role) -> bool
+    ensures { λ r. ⌜ r ≡ isPairTwo role ⌝ }
+{
+    match role {
+        Role::Opening => false,
+        Role::PairOne => false,
+        Role::PairTwo => true,
+        Role::RequestEnd => false,
+        Role::Ending => false,
+        Role::Passing => false,
+    }
+}
+
+// Whether a byte is the request's checksum.
+fn is_request_end(role: Role) -> bool
+    ensures { λ r. ⌜ r ≡ isRequestEnd role ⌝ }
+{
+    match role {
+        Role::Opening => false,
+        Role::PairOne => false,
+        Role::PairTwo => false,
+        Role::RequestEnd => true,
+        Role::Ending => false,
+        Role::Passing => false,
+    }
+}
+
+// Whether a byte is the last of all.
+fn is_ending(role: Role) -> bool
+    ensures { λ r. ⌜ r ≡ isEnding role ⌝ }
+{
+    match role {
+        Role::Opening => false,
+        Role::PairOne => false,
+        Role::PairTwo => false,
+        Role::RequestEnd => false,
+        Role::Ending => true,
+        Role::Passing => false,
     }
 }
 
@@ -122,7 +204,7 @@ fn is_ask_format(stage: Stage) -> bool
 pub fn origin(stage: Stage, fall: Micros, mark: Micros) -> Micros
     ensures { λ r. ⌜ r ≡ originOf stage fall mark ⌝ }
 {
-    if is_ask_format(stage) {
+    if is_opening(role_at(stage)) {
         return fall;
     }
     mark
@@ -264,112 +346,7 @@ fn next_stage(stage: Stage, v: u8) -> Stage
 pub fn is_last(stage: Stage) -> bool
     ensures { λ r. ⌜ r ≡ isLast stage ⌝ }
 {
-    match stage {
-        Stage::Sync => false,
-        Stage::FirstKey => false,
-        Stage::SecondKey => false,
-        Stage::KeyBack => false,
-        Stage::AddressBack => true,
-        Stage::AskFormat => false,
-        Stage::AskTarget => false,
-        Stage::AskSource => false,
-        Stage::AskService => false,
-        Stage::AskSum => false,
-        Stage::Format => false,
-        Stage::Target => false,
-        Stage::Source => false,
-        Stage::LongTarget => false,
-        Stage::LongSource => false,
-        Stage::Length => false,
-        Stage::Service => false,
-        Stage::KeyOne => false,
-        Stage::KeyTwo => false,
-        Stage::Sum => true,
-    }
-}
-
-// Whether a stage's byte is KB1.
-fn is_key_one(stage: Stage) -> bool
-    ensures { λ r. ⌜ r ≡ isKeyOne stage ⌝ }
-{
-    match stage {
-        Stage::Sync => false,
-        Stage::FirstKey => true,
-        Stage::SecondKey => false,
-        Stage::KeyBack => false,
-        Stage::AddressBack => false,
-        Stage::AskFormat => false,
-        Stage::AskTarget => false,
-        Stage::AskSource => false,
-        Stage::AskService => false,
-        Stage::AskSum => false,
-        Stage::Format => false,
-        Stage::Target => false,
-        Stage::Source => false,
-        Stage::LongTarget => false,
-        Stage::LongSource => false,
-        Stage::Length => false,
-        Stage::Service => false,
-        Stage::KeyOne => true,
-        Stage::KeyTwo => false,
-        Stage::Sum => false,
-    }
-}
-
-// Whether a stage's byte is KB2.
-fn is_key_two(stage: Stage) -> bool
-    ensures { λ r. ⌜ r ≡ isKeyTwo stage ⌝ }
-{
-    match stage {
-        Stage::Sync => false,
-        Stage::FirstKey => false,
-        Stage::SecondKey => true,
-        Stage::KeyBack => false,
-        Stage::AddressBack => false,
-        Stage::AskFormat => false,
-        Stage::AskTarget => false,
-        Stage::AskSource => false,
-        Stage::AskService => false,
-        Stage::AskSum => false,
-        Stage::Format => false,
-        Stage::Target => false,
-        Stage::Source => false,
-        Stage::LongTarget => false,
-        Stage::LongSource => false,
-        Stage::Length => false,
-        Stage::Service => false,
-        Stage::KeyOne => false,
-        Stage::KeyTwo => true,
-        Stage::Sum => false,
-    }
-}
-
-// Whether a stage's byte is the request's checksum.
-fn is_ask_sum(stage: Stage) -> bool
-    ensures { λ r. ⌜ r ≡ isAskSum stage ⌝ }
-{
-    match stage {
-        Stage::Sync => false,
-        Stage::FirstKey => false,
-        Stage::SecondKey => false,
-        Stage::KeyBack => false,
-        Stage::AddressBack => false,
-        Stage::AskFormat => false,
-        Stage::AskTarget => false,
-        Stage::AskSource => false,
-        Stage::AskService => false,
-        Stage::AskSum => true,
-        Stage::Format => false,
-        Stage::Target => false,
-        Stage::Source => false,
-        Stage::LongTarget => false,
-        Stage::LongSource => false,
-        Stage::Length => false,
-        Stage::Service => false,
-        Stage::KeyOne => false,
-        Stage::KeyTwo => false,
-        Stage::Sum => false,
-    }
+    is_ending(role_at(stage))
 }
 
 // The sum behind a byte.
@@ -377,7 +354,7 @@ fn sum_after(s: Start, v: u8) -> u8
     ensures { λ r. ⌜ r ≡ sumAfter s v ⌝ }
 {
     let stage = s.stage;
-    if is_ask_sum(stage) {
+    if is_request_end(role_at(stage)) {
         return 0;
     }
     base::byte_sum(s.sum, v)
@@ -388,12 +365,13 @@ pub fn go_onward(s: Start, v: u8) -> Start
     ensures { λ r. ⌜ r ≡ onward s v ⌝ }
 {
     let stage = s.stage;
+    let role = role_at(stage);
     Start {
         stage: next_stage(stage, v),
         address: s.address,
         sum: sum_after(s, v),
-        kb1: base::either(is_key_one(stage), v, s.kb1),
-        kb2: base::either(is_key_two(stage), v, s.kb2),
+        kb1: base::either(is_pair_one(role), v, s.kb1),
+        kb2: base::either(is_pair_two(role), v, s.kb2),
     }
 }
 

@@ -23,7 +23,7 @@ use Rattle.events.specs.declared.Side.{Side}
 use Rattle.talk.specs.declared.Reply.{Reply}
 use Rattle.talk.specs.declared.Reply.the-variants.{Never, First, Further}
 use Rattle.talk.specs.declared.Request.{Request}
-use Rattle.talk.specs.declared.Request.the-variants.{Ordinary, Stop, NormalTiming, NewTiming, Stopped}
+use Rattle.talk.specs.declared.Request.the-variants.{Ordinary, Stop, OwnTiming, NewTiming, Stopped}
 use Rattle.talk.specs.declared.Part.{Part}
 use Rattle.talk.specs.declared.Part.the-variants.{Target, Source, Length, Data, Sum}
 use Rattle.talk.specs.declared.Message.{Message}
@@ -40,7 +40,7 @@ isFirst First = true
 isFirst Further = false
 
 -- ---- the first byte of a message
--- "From the tester, early (reason 3) while a first reply is awaited or the gap is under P3 min."
+-- "from the tester, early (reason 3) while a first reply is awaited or the gap is under P3 min."
 unfoldable pub testerTurn : Reply → Windows → Micros → ℕ
 testerTurn reply w gap = if isFirst reply || isEarlier gap (w .p3min) then early else noReason
 
@@ -203,14 +203,14 @@ asksCodes m = eqb (m .length) 7 && eqb (m .seven / 1_099_511_627_776) 0x8303
 unfoldable pub requestOf : Message → Request
 requestOf m =
     if eqb (m .first) 0x82 then Stop else
-    if isExactly m 0x8301 then NormalTiming else
+    if isExactly m 0x8301 then OwnTiming else
     if asksCodes m then NewTiming else Ordinary
 
 -- a unit frame that makes it take effect: "a unit frame starting C2", "of exactly C3 01", "Exactly C3 03"
 abbrev pub takesEffect : Request → Message → Bool
 takesEffect Ordinary m = false
 takesEffect Stop m = eqb (m .first) 0xC2
-takesEffect NormalTiming m = isExactly m 0xC301
+takesEffect OwnTiming m = isExactly m 0xC301
 takesEffect NewTiming m = isExactly m 0xC303
 takesEffect Stopped m = false
 
@@ -235,7 +235,7 @@ ifAllowed d w = if eqb (d .no) taken then d .windows else w
 unfoldable pub windowsFor : Request → ℕ → ℕ → Windows → Windows
 windowsFor Ordinary kb1 seven w = w
 windowsFor Stop kb1 seven w = w
-windowsFor NormalTiming kb1 seven w = setOf kb1
+windowsFor OwnTiming kb1 seven w = setOf kb1
 windowsFor NewTiming kb1 seven w = ifAllowed (decodedOf (codesIn seven)) w
 windowsFor Stopped kb1 seven w = w
 
@@ -246,7 +246,7 @@ windowsAfter request m kb1 seven w = if isEffective request m then windowsFor re
 unfoldable pub spent : Request → Request
 spent Ordinary = Ordinary
 spent Stop = Stopped
-spent NormalTiming = Ordinary
+spent OwnTiming = Ordinary
 spent NewTiming = Ordinary
 spent Stopped = Ordinary
 
@@ -256,6 +256,6 @@ requestAfter request m = if isEffective request m then spent request else reques
 unfoldable pub isStopped : Request → Bool
 isStopped Ordinary = false
 isStopped Stop = false
-isStopped NormalTiming = false
+isStopped OwnTiming = false
 isStopped NewTiming = false
 isStopped Stopped = true

@@ -24,7 +24,7 @@ pub enum Reply {
 pub enum Request {
     Ordinary,
     Stop,
-    NormalTiming,
+    OwnTiming,
     NewTiming,
     Stopped,
 }
@@ -381,7 +381,7 @@ pub fn request_of(m: Message) -> Request
         return Request::Stop;
     }
     if is_exactly(m, 0x8301) {
-        return Request::NormalTiming;
+        return Request::OwnTiming;
     }
     if asks_codes(m) {
         return Request::NewTiming;
@@ -396,7 +396,7 @@ fn is_effective(request: Request, m: Message) -> bool
     match request {
         Request::Ordinary => false,
         Request::Stop => m.first == 0xC2,
-        Request::NormalTiming => is_exactly(m, 0xC301),
+        Request::OwnTiming => is_exactly(m, 0xC301),
         Request::NewTiming => is_exactly(m, 0xC303),
         Request::Stopped => false,
     }
@@ -432,7 +432,7 @@ fn windows_for(request: Request, kb1: u8, seven: u64, w: Windows) -> Windows
     match request {
         Request::Ordinary => w,
         Request::Stop => w,
-        Request::NormalTiming => timing::set_of(kb1),
+        Request::OwnTiming => timing::set_of(kb1),
         Request::NewTiming => if_allowed(timing::windows_of(codes_in(seven)), w),
         Request::Stopped => w,
     }
@@ -455,7 +455,7 @@ fn spend(request: Request) -> Request
     match request {
         Request::Ordinary => Request::Ordinary,
         Request::Stop => Request::Stopped,
-        Request::NormalTiming => Request::Ordinary,
+        Request::OwnTiming => Request::Ordinary,
         Request::NewTiming => Request::Ordinary,
         Request::Stopped => Request::Ordinary,
     }
@@ -478,7 +478,7 @@ pub fn is_stopped(request: Request) -> bool
     match request {
         Request::Ordinary => false,
         Request::Stop => false,
-        Request::NormalTiming => false,
+        Request::OwnTiming => false,
         Request::NewTiming => false,
         Request::Stopped => true,
     }

@@ -11,5 +11,6 @@ origin-spec =
     tie.close
     (tie.spec
     (λ c κs. search needs)
-    (λ c. rw (← (c .before .is-ask-format .ensures), c .if1 .taken))
-    (λ c. rw (← (c .before .is-ask-format .ensures), c .if1 .left)))
+    (λ c κs. search needs)
+    (λ c. rw (← (c .before .before .role-at .ensures), ← (c .before .is-opening .ensures), c .if1 .taken))
+    (λ c. rw (← (c .before .before .role-at .ensures), ← (c .before .is-opening .ensures), c .if1 .left)))

@@ -11,6 +11,7 @@ sum-after-spec =
     tie.close
     (tie.spec
     (λ c κs. search needs)
-    (λ c. rw (← (c .before .is-ask-sum .ensures), c .if1 .taken))
     (λ c κs. search needs)
-    (λ c. rw (c .byte-sum .ensures, ← (c .before .before .is-ask-sum .ensures), c .before .if1 .left)))
+    (λ c. rw (← (c .before .before .role-at .ensures), ← (c .before .is-request-end .ensures), c .if1 .taken))
+    (λ c κs. search needs)
+    (λ c. rw (c .byte-sum .ensures, ← (c .before .before .before .role-at .ensures), ← (c .before .before .is-request-end .ensures), c .before .if1 .left)))

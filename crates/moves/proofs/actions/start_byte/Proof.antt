@@ -18,7 +18,7 @@ start-byte-spec =
     (λ c κs. search needs)
     (λ c κs. search needs)
     (λ c κs. search needs)
-    (λ c. rw (c .making2 .ensures, ← (c .before .before .before .before .before .judge .ensures), eq-eqb _ _ (c .before .before .before .before .if1 .left), ← (c .before .before .before .is-last .ensures), c .before .before .if2 .taken, ← (c .before .open-up .ensures)))
+    (λ c. rw (c .making2 .ensures, ← (c .before .before .before .before .before .judge .ensures), eq-eqb _ _ (c .before .before .before .before .if1 .left), ← (c .before .before .before .is-last .ensures), c .before .before .if2 .taken, ← (c .before .connect .ensures)))
     (λ c κs. search needs)
     (λ c κs. search needs)
     (λ c κs. search needs)

@@ -1,13 +1,13 @@
--- `starts::is_key_one` meets its contract: at each return, the tests and matches on the way there pick the case of the definition.
+-- `starts::role_at` meets its contract: at each return, the tests and matches on the way there pick the case of the definition.
 -- Assumes nothing.
 use borrow.Author.Needs.{needs}
-use Rattle.starts.specs.Starts.{isKeyOne}
-use Rattle.starts.proofs.is_key_one.Statement.{statement}
-use Rattle.starts.proofs.is_key_one.Tie as tie
+use Rattle.starts.specs.Starts.{roleAt}
+use Rattle.starts.proofs.role_at.Statement.{statement}
+use Rattle.starts.proofs.role_at.Tie as tie
 
-pub is-key-one-spec : {M : Type 1} → statement M
-unfolding isKeyOne
-is-key-one-spec =
+pub role-at-spec : {M : Type 1} → statement M
+unfolding roleAt
+role-at-spec =
     tie.close
     (tie.spec
     (λ c. search needs)
