@@ -44,7 +44,7 @@ unfoldable pub afterSilence : Phase → Micros → Move
 afterSilence p gap =
     if isOpen (p .state) && isSilent gap then makes damageReport (lossReason p brokenOff) (settled p) else still p
 
--- "First reply awaited and P2 max passed: report 6; no reply is expected." While something is open, this and the next rule rest: see DECISIONS.
+-- "First reply awaited and P2 max passed: report 6; no reply is expected." While something is open, this and the next rule rest (DECISIONS 21).
 unfoldable pub afterP2 : Phase → Micros → Move
 afterP2 p gap =
     if isQuiet (p .state) && isFirst (p .reply) && isPassed (p .windows .p2max) gap then makes noReplyReport noReason (settled p) else still p

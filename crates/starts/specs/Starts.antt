@@ -1,5 +1,5 @@
--- The two initializations (document 01, "Slow." and "Fast."; ISO 14230-2, clauses 5.2.4.2.2 and 5.2.4.2.3), as the stages that each goes through. What is expected
--- of the next byte is told by the stage: who sends it, how early and how late it may start, and which values fit.
+-- The two initializations (document 01, "Slow." and "Fast."; ISO 14230-2, clauses 5.2.4.2.2 and 5.2.4.2.3), as the stages that each goes through.
+-- What is expected of the next byte is told by the stage: who sends it, how early and how late it may start, and which values fit.
 -- Assumes nothing.
 use Prim.Native.Nat.{ℕ, _-_}
 use mathlib.Core.Bool.{Bool, true, false, not, _&&_, _||_}

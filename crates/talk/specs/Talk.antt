@@ -134,7 +134,8 @@ isInside Length = false
 isInside Data = true
 isInside Sum = false
 
--- the first seven data bytes as one number, the first byte in front: with v as the data byte at an index
+-- the first seven data bytes as one number, the first byte in front: with v as the data byte at an index. (The remainder keeps it in 64 bits on any
+-- message; where fewer than seven have come it changes nothing.)
 unfoldable pub withSeven : ℕ → ℕ → ℕ → ℕ
 withSeven seven at v = if ltb at 7 then seven % 281_474_976_710_656 * 256 + v else seven
 
