@@ -1,0 +1,357 @@
+-- Laws of the definitions of specs/. Assumes nothing.
+use Prim.Native.Nat.{ℕ, zero, suc, _+_, _*_, _-_, _/_, _%_, _≤_, _<_, _^_}
+use mathlib.Core.Path.{_≡_, refl, sym, _∙_, ap}
+use mathlib.Core.Bool.{Bool, true, false, not}
+use mathlib.Core.List.{List, [], _∷_, _++_, append-assoc, append-nil}
+use lib.Dec.{eqb, leb, ltb}
+use lib.ListN.{length, take, drop, getD, set, length-append, length-take, length-drop, length-set, take-append-drop, drop-of-length-le}
+use lib.Seq.{take-suc, set-at, length-take-le, take-at, drop-at, drop-append-add, take-append-le, drop-drop, set-split, take-all}
+use borrow.Rule.Slice.PartMut.{putMid}
+use borrow.Author.Tests.{lt-ltb, le-ltb, le-leb, lt-leb, leb-true, leb-false, not-true, not-false, ne-eqb}
+use native.Mathlib.Omega.{arith}
+use native.Mathlib.Numerals.{add-one}
+use native.Mathlib.Nat.{add-assoc, add-zero, zero-add, pow-succ', div-lt-iff-lt-mul}
+use Rattle.base.specs.Choice.{if_then_else_}
+use Rattle.reports.specs.declared.Report.{Report}
+use Rattle.reports.specs.declared.Reports.{Reports}
+use Rattle.reports.specs.declared.Counts.{Counts}
+use Rattle.text.specs.Text.{space, lineFeed, placesOf, digitsOf, numberText, spacedText, lineText, headText, reportText, reportsText, refusedText, endText, put, fits, Writes, Puts}
+
+-- places: a turn, and the end
+pub places-on : (f v : ℕ) → 10 ≤ v → 0 < f → placesOf f v ≡ placesOf (f - 1) (v / 10) + 1
+unfolding placesOf
+places-on zero v h k = absurd (omega arith)
+places-on (suc f) v h k = let p : suc f - 1 ≡ f = omega arith in rw (le-ltb _ _ h, p, add-one)
+
+pub places-end : (f v : ℕ) → v < 10 → placesOf f v ≡ 1
+unfolding placesOf
+places-end zero v h = refl
+places-end (suc f) v h = rw (lt-ltb _ _ h)
+
+pub less : (f v : ℕ) → 0 < f → v < 10 ^ (f + 1) → v / 10 < 10 ^ (f - 1 + 1)
+less f v k h =
+    let e : f - 1 + 1 ≡ f = omega arith in
+    let g : 10 ^ (f + 1) ≡ 10 * 10 ^ f = rw add-one (pow-succ' 10 f) in
+    rw e (omega arith)
+
+pub no-more : (f v : ℕ) → 10 ≤ v → v < 10 ^ (f + 1) → 0 < f
+no-more zero v h k = let k2 : v < 10 = k in absurd (omega arith)
+no-more (suc f) v h k = omega arith
+
+pub length-digits : (k n : ℕ) → length (digitsOf k n) ≡ k
+unfolding digitsOf
+length-digits zero n = refl
+length-digits (suc k) n = rw (length-append, length-digits k (n / 10)) (omega arith)
+
+-- the loop that spells from the right: w is what it wrote
+pub record Spelled (at k n : ℕ) (out₀ out : List ℕ) (j v : ℕ) : Type 0 where
+  pub w : List ℕ
+  pub size : j + length w ≡ k
+  pub all : digitsOf j v ++ w ≡ digitsOf k n
+  pub memory : out ≡ take (at + j) out₀ ++ (w ++ drop (at + k) out₀)
+  pub kept : length out ≡ length out₀
+
+stored : (out₀ : List ℕ) (m x : ℕ) (r : List ℕ) → m < length out₀ → set (take (suc m) out₀ ++ r) m x ≡ take m out₀ ++ (x ∷ r)
+stored out₀ m x r h =
+    rw (take-suc out₀ m 0 h, append-assoc (take m out₀) (getD out₀ m 0 ∷ []) r)
+    (set-at (take m out₀) (getD out₀ m 0) r x m (length-take-le m out₀ (omega arith)))
+
+digits-suc : (j v : ℕ) → digitsOf (suc j) v ≡ digitsOf j (v / 10) ++ ((48 + v % 10) ∷ [])
+unfolding digitsOf
+digits-suc j v = refl
+
+pub spelled-on : (at k n : ℕ) (out₀ out : List ℕ) (j v x : ℕ) → at + k ≤ length out₀ → 0 < j → x ≡ 48 + v % 10 → Spelled at k n out₀ out j v
+    → Spelled at k n out₀ (set out (at + (j - 1)) x) (j - 1) (v / 10)
+spelled-on at k n out₀ out zero v x h pos ex p = absurd (omega arith)
+spelled-on at k n out₀ out (suc j) v x h pos ex p =
+    let e : suc j - 1 ≡ j = omega arith in
+    let z = p .size in
+    let q : at + suc j ≡ suc (at + j) = omega arith in
+    record {
+      w = x ∷ p .w;
+      size = rw e (omega arith);
+      all = rw (e, ex) (sym (append-assoc (digitsOf j (v / 10)) ((48 + v % 10) ∷ []) (p .w)) ∙ rw digits-suc at (p .all));
+      memory = rw (e, p .memory, q) (stored out₀ (at + j) x (p .w ++ drop (at + k) out₀) (omega arith));
+      kept = simp length-set (p .kept);
+    }
+
+pub spelled-start : (at k n : ℕ) (out : List ℕ) → Spelled at k n out out k n
+spelled-start at k n out =
+    record {
+      w = [];
+      size = omega arith;
+      all = append-nil (digitsOf k n);
+      memory = sym (take-append-drop (at + k) out);
+      kept = refl;
+    }
+
+digits-zero : (v : ℕ) → digitsOf 0 v ≡ []
+unfolding digitsOf
+digits-zero v = refl
+
+pub spelled-end : (at k n : ℕ) (out₀ out : List ℕ) (j v : ℕ) → j ≤ 0 → Spelled at k n out₀ out j v → out ≡ put at (digitsOf k n) out₀
+unfolding put
+spelled-end at k n out₀ out zero v h p =
+    let e : p .w ≡ digitsOf k n = rw digits-zero at (p .all) in
+    let z : at + 0 ≡ at = omega arith in
+    p .memory ∙ rw (z, e, length-digits k n)
+spelled-end at k n out₀ out (suc j) v h p = absurd (omega arith)
+
+-- one behind the other
+drop-past : (x r : List ℕ) (n m : ℕ) → length x ≡ n → drop (n + m) (x ++ r) ≡ drop m r
+drop-past x r n m e = rw (← e) (drop-append-add x r m)
+
+pub put-put : (at : ℕ) (p q out : List ℕ) → at + length p ≤ length out → put (at + length p) q (put at p out) ≡ put at (p ++ q) out
+unfolding put
+put-put at p q out h =
+    let lx : length (take at out ++ p) ≡ at + length p = rw (length-append, length-take-le at out (omega arith)) in
+    rw (
+      ← (append-assoc (take at out) p (drop (at + length p) out)),
+      take-at (take at out ++ p) (drop (at + length p) out) (at + length p) lx,
+      drop-past (take at out ++ p) (drop (at + length p) out) (at + length p) (length q) lx,
+      drop-drop (length q) (at + length p) out,
+      length-append p q,
+      ← (add-assoc at (length p) (length q)),
+      append-assoc (take at out) p (q ++ drop (at + length p + length q) out),
+      append-assoc p q (drop (at + length p + length q) out),
+    )
+
+pub length-put : (at : ℕ) (p out : List ℕ) → at + length p ≤ length out → length (put at p out) ≡ length out
+unfolding put
+length-put at p out h = simp (length-append, length-take, length-drop) (omega arith)
+
+pub put-one : (out : List ℕ) (i b : ℕ) → i < length out → set out i b ≡ put i (b ∷ []) out
+unfolding put
+put-one out i b h = let e : suc i ≡ i + 1 = omega arith in rw (set-split out i b h, e)
+
+pub puts-join : (at : ℕ) (p q : List ℕ) (m n : ℕ) (out : List ℕ) (a : ℕ) (o1 : List ℕ) (r : ℕ) (o2 : List ℕ) → at + m ≤ length out
+    → Puts at p m out a o1 → Puts a q n o1 r o2 → Puts at (p ++ q) (m + n) out r o2
+puts-join at p q m n out a o1 r o2 h u v =
+    record {
+      place = v .place ∙ rw (length-append p q, u .place) (omega arith);
+      small = rw (length-append p q) (omega (arith, u .small, v .small));
+      memory = v .memory ∙ rw (u .memory, u .place) (put-put at p q out (omega (arith, u .small)));
+      kept = v .kept ∙ u .kept;
+    }
+
+pub number-puts : (at k n b : ℕ) (out o1 : List ℕ) → at + 21 ≤ length out → k ≡ placesOf 19 n → k ≤ 20 → o1 ≡ put at (digitsOf k n) out
+    → Puts at (numberText n b) 21 out (at + k + 1) (set o1 (at + k) b)
+unfolding numberText
+number-puts at k n b out o1 h ek small e =
+    let l = length-digits k n in
+    let lp : length (put at (digitsOf k n) out) ≡ length out = length-put at (digitsOf k n) out (omega arith) in
+    let one : set (put at (digitsOf k n) out) (at + k) b ≡ put (at + k) (b ∷ []) (put at (digitsOf k n) out) = put-one (put at (digitsOf k n) out) (at + k) b (omega arith) in
+    let two : put (at + length (digitsOf k n)) (b ∷ []) (put at (digitsOf k n) out) ≡ put at (digitsOf k n ++ (b ∷ [])) out = put-put at (digitsOf k n) (b ∷ []) out (omega arith) in
+    rw (← ek)
+    (record {
+      place = rw (length-append, l) (omega arith);
+      small = rw (length-append, l) (omega arith);
+      memory = rw e (one ∙ (rw l at two));
+      kept = rw e (simp length-set lp);
+    })
+
+-- what `bytes::copy` into a part leaves
+pub copied : (at n : ℕ) (s out last : List ℕ) → n ≡ length s → at + length s ≤ length out → last ≡ take (length s) s ++ drop (length s) (take (length out - at) (drop at out))
+    → Puts at s (length s) out (at + n) (putMid at (length out - at) out last)
+unfolding put
+copied at n s out last en h e =
+    let m : putMid at (length out - at) out last ≡ take at out ++ (s ++ drop (at + length s) out) =
+    rw (
+      e,
+      take-all (length s) s (omega arith),
+      take-all (length out - at) (drop at out) (omega (arith, length-drop at out)),
+      drop-drop (length s) at out,
+      drop-drop (length out - at) at out,
+      append-assoc s (drop (at + length s) out) _,
+      drop-of-length-le out {i = at + (length out - at)} (omega arith),
+      append-nil (drop (at + length s) out),
+    ) in
+    record {
+      place = ap (λ k. at + k) en;
+      small = omega arith;
+      memory = m;
+      kept = rw m (simp (length-append, length-take, length-drop) (omega arith));
+    }
+
+-- the loop that counts the digits
+pub record Counted (n k v : ℕ) : Type 0 where
+  pub some : 1 ≤ k
+  pub few : k ≤ 20
+  pub below : v < 10 ^ (20 - k + 1)
+  pub sum : placesOf 19 n ≡ k - 1 + placesOf (20 - k) v
+
+pub counted-start : (n : ℕ) → n < 10 ^ 20 → Counted n 1 n
+counted-start n h = record { some = omega arith; few = omega arith; below = h; sum = sym (zero-add _) }
+
+pub counted-on : (n k v : ℕ) → 10 ≤ v → Counted n k v → Counted n (k + 1) (v / 10)
+counted-on n k v h p =
+    let pos = no-more (20 - k) v h (p .below) in
+    let e : 20 - k - 1 ≡ 20 - (k + 1) = omega arith in
+    let l = less (20 - k) v pos (p .below) in
+    let t = places-on (20 - k) v h pos in
+    record {
+      some = omega arith;
+      few = omega arith;
+      below = rw e at l;
+      sum = p .sum ∙ (rw (t, e) (omega (arith, p .some)));
+    }
+
+pub counted-end : (n k v : ℕ) → v < 10 → Counted n k v → k ≡ placesOf 19 n
+counted-end n k v h p = omega (arith, p .sum, p .some, places-end (20 - k) v h)
+
+-- a number has at most 20 digits, and its text at most 21 bytes
+few-by : (b : Bool) (m k : ℕ) → m ≤ k → (if b then 1 else suc m) ≤ suc k
+few-by true m k h = omega arith
+few-by false m k h = omega arith
+
+places-few : (f n : ℕ) → placesOf f n ≤ f + 1
+unfolding placesOf
+places-few zero n = omega arith
+places-few (suc f) n = let h = few-by (ltb n 10) (placesOf f (n / 10)) (f + 1) (places-few f (n / 10)) in omega (arith, h)
+
+pub number-small : (n b : ℕ) → length (numberText n b) ≤ 21
+unfolding numberText
+number-small n b = rw (length-append, length-digits (placesOf 19 n) n) (omega (arith, places-few 19 n))
+
+-- lines of numbers
+pub spaced-line : (xs : List ℕ) (y : ℕ) (ys : List ℕ) → spacedText xs ++ lineText (y ∷ ys) ≡ lineText (xs ++ (y ∷ ys))
+unfolding spacedText lineText
+spaced-line [] y ys = refl
+spaced-line (x ∷ []) y ys = append-assoc (numberText x space) [] (lineText (y ∷ ys))
+spaced-line (x ∷ z ∷ xs) y ys =
+    append-assoc (numberText x space) (spacedText (z ∷ xs)) (lineText (y ∷ ys)) ∙ ap (λ l. numberText x space ++ l) (spaced-line (z ∷ xs) y ys)
+
+pub line-small : (ns : List ℕ) → length (lineText ns) ≤ 21 * length ns
+unfolding lineText
+line-small [] = omega arith
+line-small (n ∷ []) = omega (arith, number-small n lineFeed)
+line-small (n ∷ m ∷ ns) = rw (length-append) (omega (arith, number-small n space, line-small (m ∷ ns)))
+
+-- the longest texts
+pub head-small : length headText ≤ 31
+unfolding headText
+head-small = omega arith
+
+pub report-small : (x : Report) → length (reportText x) ≤ 105
+unfolding reportText
+report-small x = line-small (x .number ∷ x .reason ∷ x .first ∷ x .bytes ∷ x .time .0 ∷ [])
+
+some-small : (b0 b1 b2 : Bool) (p q r : List ℕ) → length p ≤ 105 → length q ≤ 105 → length r ≤ 105
+    → length (if b0 then [] else if b1 then p else if b2 then p ++ q else p ++ (q ++ r)) ≤ 315
+some-small true b1 b2 p q r h k l = omega arith
+some-small false true b2 p q r h k l = omega arith
+some-small false false true p q r h k l = rw (length-append p q) (omega arith)
+some-small false false false p q r h k l = rw (length-append p (q ++ r), length-append q r) (omega arith)
+
+pub reports-small : (rs : Reports) → length (reportsText rs) ≤ 315
+unfolding reportsText
+reports-small rs = some-small (eqb (rs .n) 0) (eqb (rs .n) 1) (eqb (rs .n) 2) _ _ _ (report-small (rs .a)) (report-small (rs .b)) (report-small (rs .c))
+
+pub refused-small : (n : ℕ) → length (refusedText n) ≤ 29
+unfolding refusedText
+refused-small n = omega (arith, line-small (n ∷ []))
+
+pub end-small : (c : Counts) (held : ℕ) → length (endText c held) ≤ 172
+unfolding endText
+end-small c held = omega (arith, line-small (c .heard ∷ c .framed ∷ c .damaged ∷ c .started ∷ c .outside ∷ c .frames ∷ c .damages ∷ held ∷ []))
+
+-- several numbers, one behind the other
+pub puts-three : (at : ℕ) (p q s : List ℕ) (out : List ℕ) (a1 : ℕ) (o1 : List ℕ) (a2 : ℕ) (o2 : List ℕ) (r : ℕ) (o3 : List ℕ) → at + 63 ≤ length out
+    → Puts at p 21 out a1 o1 → Puts a1 q 21 o1 a2 o2 → Puts a2 s 21 o2 r o3 → Puts at (p ++ (q ++ s)) 63 out r o3
+puts-three at p q s out a1 o1 a2 o2 r o3 h u v w =
+    puts-join at p (q ++ s) 21 42 out a1 o1 r o3 (omega arith) u
+    (puts-join a1 q s 21 21 o1 a2 o2 r o3 (omega (arith, u .place, u .small, u .kept)) v w)
+
+pub puts-five : (at : ℕ) (p q s t x : List ℕ) (out : List ℕ) (a1 : ℕ) (o1 : List ℕ) (a2 : ℕ) (o2 : List ℕ) (a3 : ℕ) (o3 : List ℕ) (a4 : ℕ) (o4 : List ℕ) (r : ℕ) (o5 : List ℕ)
+    → at + 105 ≤ length out → Puts at p 21 out a1 o1 → Puts a1 q 21 o1 a2 o2 → Puts a2 s 21 o2 a3 o3 → Puts a3 t 21 o3 a4 o4 → Puts a4 x 21 o4 r o5
+    → Puts at (p ++ (q ++ (s ++ (t ++ x)))) 105 out r o5
+puts-five at p q s t x out a1 o1 a2 o2 a3 o3 a4 o4 r o5 h u v w y z =
+    puts-join at p (q ++ (s ++ (t ++ x))) 21 84 out a1 o1 r o5 (omega arith) u
+    (puts-join a1 q (s ++ (t ++ x)) 21 63 o1 a2 o2 r o5 (omega (arith, u .place, u .small, u .kept)) v
+    (puts-three a2 s t x o2 a3 o3 a4 o4 r o5 (omega (arith, u .place, u .small, u .kept, v .place, v .small, v .kept)) w y z))
+
+pub puts-last : (at : ℕ) (p : List ℕ) (m : ℕ) (out : List ℕ) (r : ℕ) (after : List ℕ) → Puts at p m out r after → Puts at (p ++ []) m out r after
+puts-last at p m out r after u = rw (append-nil p) u
+
+pub put-nil : (at : ℕ) (out : List ℕ) → put at [] out ≡ out
+unfolding put
+put-nil at out = let z : at + 0 ≡ at = omega arith in rw z (take-append-drop at out)
+
+-- nothing
+pub puts-nil : (at : ℕ) (out : List ℕ) → Puts at [] 0 out at out
+puts-nil at out = record { place = omega arith; small = omega arith; memory = sym (put-nil at out); kept = refl }
+
+-- the two promises
+pub puts-writes : (p : List ℕ) (most at : ℕ) (out : List ℕ) (r : ℕ) (after : List ℕ) → at + most ≤ length out → Puts at p most out r after → Writes p most at out r after
+puts-writes p most at out r after h u =
+    let e = le-leb (at + most) (length out) h in
+    record { place = rw e (u .place); memory = rw e (u .memory) }
+
+pub writes-puts : (p : List ℕ) (most at : ℕ) (out : List ℕ) (r : ℕ) (after : List ℕ) → at + most ≤ length out → length p ≤ most → Writes p most at out r after
+    → Puts at p most out r after
+writes-puts p most at out r after h k w =
+    let e = le-leb (at + most) (length out) h in
+    let m : after ≡ put at p out = rw e at (w .memory) in
+    record { place = rw e at (w .place); small = k; memory = m; kept = rw m (length-put at p out (omega arith)) }
+
+-- the test of the room
+room-by : (b : Bool) (len at most : ℕ) → leb (at + most) len ≡ b → at ≤ len → leb most (len - at) ≡ b
+room-by true len at most e h = le-leb most (len - at) (omega (arith, leb-true (at + most) len e))
+room-by false len at most e h = lt-leb most (len - at) (omega (arith, leb-false (at + most) len e))
+
+pub room-behind : (len at most : ℕ) → at ≤ len → leb most (len - at) ≡ leb (at + most) len
+room-behind len at most h = room-by (leb (at + most) len) len at most refl h
+
+pub room-there : (h : Bool) (len at most : ℕ) → h ≡ leb (at + most) len → not h ≡ false → at + most ≤ len
+room-there h len at most e t = leb-true (at + most) len (sym e ∙ not-false h t)
+
+pub no-room : (p : List ℕ) (most at : ℕ) (out : List ℕ) (h : Bool) → h ≡ leb (at + most) (length out) → not h ≡ true → Writes p most at out at out
+no-room p most at out h e f =
+    let g : leb (at + most) (length out) ≡ false = sym e ∙ not-true h f in
+    record { place = rw g; memory = rw g }
+
+-- nothing to write, with room or without
+both-same : (b : Bool) {A : Type 0} (x : A) → x ≡ (if b then x else x)
+both-same true x = refl
+both-same false x = refl
+
+pub none-writes : (most at : ℕ) (out : List ℕ) → Writes [] most at out at out
+none-writes most at out =
+    let z : at + 0 ≡ at = omega arith in
+    record { place = rw z (both-same (fits at most out) at); memory = rw (put-nil at out) (both-same (fits at most out) out) }
+
+-- the end line in three parts
+pub puts-end : (at : ℕ) (c : Counts) (held : ℕ) (out : List ℕ) (a1 : ℕ) (o1 : List ℕ) (a2 : ℕ) (o2 : List ℕ) (r : ℕ) (o3 : List ℕ) → at + 172 ≤ length out
+    → Puts at (101 ∷ 110 ∷ 100 ∷ space ∷ []) 4 out a1 o1 → Puts a1 (spacedText (c .heard ∷ c .framed ∷ c .damaged ∷ c .started ∷ c .outside ∷ [])) 105 o1 a2 o2
+    → Puts a2 (lineText (c .frames ∷ c .damages ∷ held ∷ [])) 63 o2 r o3 → Puts at (endText c held) 172 out r o3
+unfolding endText
+puts-end at c held out a1 o1 a2 o2 r o3 h u v w =
+    rw (← (spaced-line (c .heard ∷ c .framed ∷ c .damaged ∷ c .started ∷ c .outside ∷ []) (c .frames) (c .damages ∷ held ∷ [])))
+    (puts-join at _ _ 4 168 out a1 o1 r o3 (omega arith) u (puts-join a1 _ _ 105 63 o1 a2 o2 r o3 (omega (arith, u .place, u .small, u .kept)) v w))
+
+-- the reports of an event, by their number
+puts-wider : (at : ℕ) (p : List ℕ) (m n : ℕ) (out : List ℕ) (r : ℕ) (after : List ℕ) → m ≤ n → Puts at p m out r after → Puts at p n out r after
+puts-wider at p m n out r after h u = record { place = u .place; small = omega (arith, u .small); memory = u .memory; kept = u .kept }
+
+pub writes-none : (rs : Reports) (most at : ℕ) (out : List ℕ) → rs .n ≡ 0 → Writes (reportsText rs) most at out at out
+unfolding reportsText
+writes-none rs most at out e = rw e (none-writes most at out)
+
+pub puts-one : (at : ℕ) (rs : Reports) (out : List ℕ) (r : ℕ) (o1 : List ℕ) → rs .n ≡ 1 → Puts at (reportText (rs .a)) 105 out r o1
+    → Puts at (reportsText rs) 315 out r o1
+unfolding reportsText
+puts-one at rs out r o1 e u = rw e (puts-wider at _ 105 315 out r o1 (omega arith) u)
+
+pub puts-two : (at : ℕ) (rs : Reports) (out : List ℕ) (a1 : ℕ) (o1 : List ℕ) (r : ℕ) (o2 : List ℕ) → at + 315 ≤ length out → rs .n ≡ 2
+    → Puts at (reportText (rs .a)) 105 out a1 o1 → Puts a1 (reportText (rs .b)) 105 o1 r o2 → Puts at (reportsText rs) 315 out r o2
+unfolding reportsText
+puts-two at rs out a1 o1 r o2 h e u v =
+    rw e (puts-wider at _ 210 315 out r o2 (omega arith) (puts-join at _ _ 105 105 out a1 o1 r o2 (omega arith) u v))
+
+pub puts-all : (at : ℕ) (rs : Reports) (out : List ℕ) (a1 : ℕ) (o1 : List ℕ) (a2 : ℕ) (o2 : List ℕ) (r : ℕ) (o3 : List ℕ) → at + 315 ≤ length out
+    → 1 ≤ rs .n → (rs .n ≡ 1 → ⊥) → (rs .n ≡ 2 → ⊥) → Puts at (reportText (rs .a)) 105 out a1 o1 → Puts a1 (reportText (rs .b)) 105 o1 a2 o2
+    → Puts a2 (reportText (rs .c)) 105 o2 r o3 → Puts at (reportsText rs) 315 out r o3
+unfolding reportsText
+puts-all at rs out a1 o1 a2 o2 r o3 h n0 n1 n2 u v w =
+    rw (ne-eqb (rs .n) 0 (λ e. omega arith), ne-eqb (rs .n) 1 n1, ne-eqb (rs .n) 2 n2)
+    (puts-join at _ _ 105 210 out a1 o1 r o3 (omega arith) u (puts-join a1 _ _ 105 105 o1 a2 o2 r o3 (omega (arith, u .place, u .small, u .kept)) v w))

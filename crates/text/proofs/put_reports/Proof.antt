@@ -1,0 +1,29 @@
+-- No report writes nothing; else, where there is room, their lines. Assumes nothing.
+use borrow.Author.Needs.{needs}
+use native.Mathlib.Omega.{arith}
+use Rattle.text.proofs.Laws.{room-there, no-room, writes-none, puts-writes}
+use Rattle.text.proofs.put_reports.Statement.{statement}
+use Rattle.text.proofs.put_reports.Tie as tie
+
+returns : tie.Need-returns
+returns c = writes-none _ _ _ _ (c .if1 .taken)
+
+has-room-requires : tie.Need-has-room-requires
+has-room-requires c κs = search needs
+
+returns-2 : tie.Need-returns-2
+returns-2 c = no-room _ _ _ _ _ (c .before .has-room .ensures) (c .if2 .taken)
+
+write-reports-requires : tie.Need-write-reports-requires
+write-reports-requires c κs = (room-there _ _ _ _ (c .before .before .has-room .ensures) (c .before .if2 .left), omega (arith, c .before .before .before .if1 .left))
+
+same-length : tie.Need-same-length
+same-length c = search needs
+
+returns-3 : tie.Need-returns-3
+returns-3 c = puts-writes _ _ _ _ _ _ (room-there _ _ _ _ (c .before .before .before .before .before .has-room .ensures) (c .before .before .before .before .if2 .left)) (c .before .before .write-reports .ensures)
+
+pub put-reports-spec : {M : Type 1} → statement M
+put-reports-spec =
+    tie.close
+    (tie.spec returns has-room-requires returns-2 write-reports-requires same-length returns-3)

@@ -1,0 +1,35 @@
+-- The end line. Assumes nothing.
+use borrow.Author.Needs.{needs}
+use Rattle.text.specs.Text.{endText}
+use Rattle.text.proofs.Laws.{puts-join, puts-end}
+use Rattle.text.proofs.write_end.Statement.{statement}
+use Rattle.text.proofs.write_end.Tie as tie
+
+slice-aggregate-put-text : tie.Need-slice-aggregate-put-text
+slice-aggregate-put-text c = search needs
+
+put-text-requires : tie.Need-put-text-requires
+put-text-requires c κs = search needs
+
+put-byte-counts-requires : tie.Need-put-byte-counts-requires
+put-byte-counts-requires c κs = search needs
+
+put-report-counts-requires : tie.Need-put-report-counts-requires
+put-report-counts-requires c κs = search needs
+
+same-length : tie.Need-same-length
+same-length c = search needs
+
+returns : tie.Need-returns
+returns c = puts-end _ _ _ _ _ _ _ _ _ _ (search needs) (c .before .before .before .before .before .before .before .before .before .before .put-text .ensures) (c .before .before .before .before .before .before .put-byte-counts .ensures) (c .before .before .put-report-counts .ensures)
+
+pub write-end-spec : {M : Type 1} → statement M
+write-end-spec =
+    tie.close
+    (tie.spec
+    slice-aggregate-put-text
+    put-text-requires
+    put-byte-counts-requires
+    put-report-counts-requires
+    same-length
+    returns)

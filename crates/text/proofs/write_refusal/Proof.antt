@@ -1,0 +1,27 @@
+-- A refusal. Assumes nothing.
+use borrow.Author.Needs.{needs}
+use Rattle.text.specs.Text.{lineText, refusedText}
+use Rattle.text.proofs.Laws.{puts-join}
+use Rattle.text.proofs.write_refusal.Statement.{statement}
+use Rattle.text.proofs.write_refusal.Tie as tie
+
+slice-aggregate-put-text : tie.Need-slice-aggregate-put-text
+slice-aggregate-put-text c = search needs
+
+put-text-requires : tie.Need-put-text-requires
+put-text-requires c κs = search needs
+
+put-number-requires : tie.Need-put-number-requires
+put-number-requires c κs = search needs
+
+same-length : tie.Need-same-length
+same-length c = search needs
+
+returns : tie.Need-returns
+unfolding refusedText lineText
+returns c = puts-join _ _ _ 8 21 _ _ _ _ _ (search needs) (c .before .before .before .before .before .before .put-text .ensures) (c .before .before .put-number .ensures)
+
+pub write-refusal-spec : {M : Type 1} → statement M
+write-refusal-spec =
+    tie.close
+    (tie.spec slice-aggregate-put-text put-text-requires put-number-requires same-length returns)

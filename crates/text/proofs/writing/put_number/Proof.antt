@@ -1,0 +1,38 @@
+-- A number. Assumes nothing.
+use borrow.Author.Needs.{needs}
+use Rattle.text.proofs.Laws.{number-puts}
+use Rattle.text.proofs.writing.put_number.Statement.{statement}
+use Rattle.text.proofs.writing.put_number.Tie as tie
+
+places-requires : tie.Need-places-requires
+places-requires c κs = search needs
+
+spell-requires : tie.Need-spell-requires
+spell-requires c κs = search needs
+
+add-end : tie.Need-add-end
+add-end c = search needs
+
+slice-write-out : tie.Need-slice-write-out
+slice-write-out c = search needs
+
+add-result : tie.Need-add-result
+add-result c = search needs
+
+same-length : tie.Need-same-length
+same-length c = search needs
+
+returns : tie.Need-returns
+returns c = number-puts _ _ _ _ _ _ (c .before .before .before .before .before .before .pre) (c .before .before .before .before .places .ensures .0) (c .before .before .before .before .places .ensures .1) (c .before .before .spell .ensures)
+
+pub put-number-spec : {M : Type 1} → statement M
+put-number-spec =
+    tie.close
+    (tie.spec
+    places-requires
+    spell-requires
+    add-end
+    slice-write-out
+    add-result
+    same-length
+    returns)

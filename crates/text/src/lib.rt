@@ -1,0 +1,130 @@
+// The lines of a listing, written into a lent buffer at a place. Each function answers the place
+// behind what it wrote. Where the buffer has not so many bytes from that place on as the longest
+// such text needs, it writes nothing and answers the place itself.
+mod writing;
+
+ghost use mathlib.Core.Path.{_≡_};
+ghost use mathlib.Core.List.{_∷_, []};
+ghost use Prim.Native.Nat.{_+_, _≤_};
+ghost use lib.ListN.{length};
+ghost use Rattle.text.specs.Text.{spacedText, lineText, headText, reportText, reportsText, refusedText, endText};
+ghost use Rattle.text.specs.Text.{Puts, Writes};
+use reports::Counts;
+use reports::Report;
+use reports::Reports;
+
+const SPACE: u8 = 32;
+
+const LINE_FEED: u8 = 10;
+
+// The header: 31 bytes.
+pub fn put_head(out: &mut [u8], at: usize) -> usize
+    ensures { λ r. ⌜ Writes headText 31 at (now (out .entry)) r (now (out .exit)) ⌝ }
+{
+    if !writing::has_room(out.len(), at, 31) {
+        return at;
+    }
+    writing::put_text(out, at, b"report reason first bytes time\n")
+}
+
+// A report's line, of at most 105 bytes.
+fn put_report(out: &mut [u8], at: usize, x: Report) -> usize
+    requires { ⌜ at + 105 ≤ length (now out) ⌝ }
+    ensures { λ r. ⌜ Puts at (reportText x) 105 (now (out .entry)) r (now (out .exit)) ⌝ }
+{
+    let a = writing::put_number(out, at, x.number as u64, SPACE);
+    let b = writing::put_number(out, a, x.reason as u64, SPACE);
+    let c = writing::put_number(out, b, x.first, SPACE);
+    let d = writing::put_number(out, c, x.bytes, SPACE);
+    writing::put_number(out, d, x.time.0, LINE_FEED)
+}
+
+// One report or more, where there is room.
+fn write_reports(out: &mut [u8], at: usize, rs: Reports) -> usize
+    requires { ⌜ (at + 315 ≤ length (now out)) × (1 ≤ rs .n) ⌝ }
+    ensures { λ r. ⌜ Puts at (reportsText rs) 315 (now (out .entry)) r (now (out .exit)) ⌝ }
+{
+    let a = put_report(out, at, rs.a);
+    if rs.n == 1 {
+        return a;
+    }
+    let b = put_report(out, a, rs.b);
+    if rs.n == 2 {
+        return b;
+    }
+    put_report(out, b, rs.c)
+}
+
+// The reports of an event, a line for each: at most 315 bytes.
+pub fn put_reports(out: &mut [u8], at: usize, rs: Reports) -> usize
+    ensures { λ r. ⌜ Writes (reportsText rs) 315 at (now (out .entry)) r (now (out .exit)) ⌝ }
+{
+    if rs.n == 0 {
+        return at;
+    }
+    if !writing::has_room(out.len(), at, 315) {
+        return at;
+    }
+    write_reports(out, at, rs)
+}
+
+// The line of a refused line, where there is room.
+fn write_refusal(out: &mut [u8], at: usize, no: u8) -> usize
+    requires { ⌜ at + 29 ≤ length (now out) ⌝ }
+    ensures { λ r. ⌜ Puts at (refusedText no) 29 (now (out .entry)) r (now (out .exit)) ⌝ }
+{
+    let a = writing::put_text(out, at, b"refused ");
+    writing::put_number(out, a, no as u64, LINE_FEED)
+}
+
+// The line of a refused line: at most 29 bytes.
+pub fn put_refusal(out: &mut [u8], at: usize, no: u8) -> usize
+    ensures { λ r. ⌜ Writes (refusedText no) 29 at (now (out .entry)) r (now (out .exit)) ⌝ }
+{
+    if !writing::has_room(out.len(), at, 29) {
+        return at;
+    }
+    write_refusal(out, at, no)
+}
+
+// The counts of bytes, a space behind each.
+fn put_byte_counts(out: &mut [u8], at: usize, c: Counts) -> usize
+    requires { ⌜ at + 105 ≤ length (now out) ⌝ }
+    ensures { λ r. ⌜ Puts at (spacedText (c .heard ∷ c .framed ∷ c .damaged ∷ c .started ∷ c .outside ∷ [])) 105 (now (out .entry)) r (now (out .exit)) ⌝ }
+{
+    let a = writing::put_number(out, at, c.heard, SPACE);
+    let b = writing::put_number(out, a, c.framed, SPACE);
+    let d = writing::put_number(out, b, c.damaged, SPACE);
+    let e = writing::put_number(out, d, c.started, SPACE);
+    writing::put_number(out, e, c.outside, SPACE)
+}
+
+// The rest of the end line: the counts of reports, and the bytes held.
+fn put_report_counts(out: &mut [u8], at: usize, c: Counts, held: u64) -> usize
+    requires { ⌜ at + 63 ≤ length (now out) ⌝ }
+    ensures { λ r. ⌜ Puts at (lineText (c .frames ∷ c .damages ∷ held ∷ [])) 63 (now (out .entry)) r (now (out .exit)) ⌝ }
+{
+    let a = writing::put_number(out, at, c.frames, SPACE);
+    let b = writing::put_number(out, a, c.damages, SPACE);
+    writing::put_number(out, b, held, LINE_FEED)
+}
+
+// The end line, where there is room.
+fn write_end(out: &mut [u8], at: usize, c: Counts, held: u64) -> usize
+    requires { ⌜ at + 172 ≤ length (now out) ⌝ }
+    ensures { λ r. ⌜ Puts at (endText c held) 172 (now (out .entry)) r (now (out .exit)) ⌝ }
+{
+    let a = writing::put_text(out, at, b"end ");
+    let b = put_byte_counts(out, a, c);
+    put_report_counts(out, b, c, held)
+}
+
+// The end line, of the seven counts and the bytes held: at most 172 bytes.
+pub fn put_end(out: &mut [u8], at: usize, c: Counts, held: u64) -> usize
+    ensures { λ r. ⌜ Writes (endText c held) 172 at (now (out .entry)) r (now (out .exit)) ⌝ }
+{
+    if !writing::has_room(out.len(), at, 172) {
+        return at;
+    }
+    write_end(out, at, c, held)
+}
