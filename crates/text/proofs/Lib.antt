@@ -1,1 +1,4 @@
+pub mod Spelling
 pub mod Laws
+pub mod Numbers
+pub mod One

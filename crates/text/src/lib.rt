@@ -3,7 +3,6 @@
 // such text needs, it writes nothing and answers the place itself.
 mod writing;
 
-ghost use mathlib.Core.Path.{_≡_};
 ghost use mathlib.Core.List.{_∷_, []};
 ghost use Prim.Native.Nat.{_+_, _≤_};
 ghost use lib.ListN.{length};

@@ -1,4 +1,4 @@
--- The counts of bytes. Assumes nothing.
+-- `text::put_byte_counts` meets its contract: five numbers, one behind the other. Assumes nothing.
 use Rattle.text.specs.Text.{spacedText}
 use Rattle.text.proofs.Laws.{puts-five, puts-last}
 use borrow.Author.Needs.{needs}
@@ -25,7 +25,14 @@ same-length c = search needs
 
 returns : tie.Need-returns
 unfolding spacedText
-returns c = puts-five _ _ _ _ _ _ _ _ _ _ _ _ _ _ _ _ _ (search needs) (c .before .before .before .before .before .before .before .before .before .before .before .before .before .before .before .before .before .before .put-number .ensures) (c .before .before .before .before .before .before .before .before .before .before .before .before .before .before .put-number2 .ensures) (c .before .before .before .before .before .before .before .before .before .before .put-number3 .ensures) (c .before .before .before .before .before .before .put-number4 .ensures) (puts-last _ _ _ _ _ _ (c .before .before .put-number5 .ensures))
+returns c =
+    let e = c .before .before in
+    let d = e .before .before .before .before in
+    let g = d .before .before .before .before in
+    let b = g .before .before .before .before in
+    let a = b .before .before .before .before in
+    puts-five _ _ _ _ _ _ _ _ _ _ _ _ _ _ _ _ _ (search needs) (a .put-number .ensures) (b .put-number2 .ensures) (g .put-number3 .ensures) (d .put-number4 .ensures)
+    (puts-last _ _ _ _ _ _ (e .put-number5 .ensures))
 
 pub put-byte-counts-spec : {M : Type 1} → statement M
 put-byte-counts-spec =

@@ -1,4 +1,4 @@
--- Where there is room, the header; else nothing. Assumes nothing.
+-- `text::put_head` meets its contract: where there is no room nothing is written, and otherwise `put_text` has put the header there. Assumes nothing.
 use borrow.Author.Needs.{needs}
 use Rattle.text.specs.Text.{headText}
 use Rattle.text.proofs.Laws.{room-there, no-room, puts-writes}
@@ -22,7 +22,10 @@ same-length c = search needs
 
 returns-2 : tie.Need-returns-2
 unfolding headText
-returns-2 c = puts-writes _ _ _ _ _ _ (room-there _ _ _ _ (c .before .before .before .before .before .before .has-room .ensures) (c .before .before .before .before .before .if1 .left)) (c .before .before .put-text .ensures)
+returns-2 c =
+    let w = c .before .before in
+    let e = w .before .before .before in
+    puts-writes _ _ _ _ _ _ (room-there _ _ _ _ (e .before .has-room .ensures) (e .if1 .left)) (w .put-text .ensures)
 
 pub put-head-spec : {M : Type 1} → statement M
 put-head-spec =

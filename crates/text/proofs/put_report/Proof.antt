@@ -1,4 +1,4 @@
--- A report's line. Assumes nothing.
+-- `text::put_report` meets its contract: five numbers, one behind the other. Assumes nothing.
 use Rattle.text.specs.Text.{lineText, reportText}
 use Rattle.text.proofs.Laws.{puts-five}
 use borrow.Author.Needs.{needs}
@@ -31,7 +31,13 @@ same-length c = search needs
 
 returns : tie.Need-returns
 unfolding reportText lineText
-returns c = puts-five _ _ _ _ _ _ _ _ _ _ _ _ _ _ _ _ _ (search needs) (c .before .before .before .before .before .before .before .before .before .before .before .before .before .before .before .before .before .before .before .put-number .ensures) (c .before .before .before .before .before .before .before .before .before .before .before .before .before .before .put-number2 .ensures) (c .before .before .before .before .before .before .before .before .before .before .put-number3 .ensures) (c .before .before .before .before .before .before .put-number4 .ensures) (c .before .before .put-number5 .ensures)
+returns c =
+    let e = c .before .before in
+    let d = e .before .before .before .before in
+    let g = d .before .before .before .before in
+    let b = g .before .before .before .before in
+    let a = b .before .before .before .before .before in
+    puts-five _ _ _ _ _ _ _ _ _ _ _ _ _ _ _ _ _ (search needs) (a .put-number .ensures) (b .put-number2 .ensures) (g .put-number3 .ensures) (d .put-number4 .ensures) (e .put-number5 .ensures)
 
 pub put-report-spec : {M : Type 1} → statement M
 put-report-spec =

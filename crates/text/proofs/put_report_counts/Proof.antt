@@ -1,4 +1,4 @@
--- The counts of reports and the bytes held. Assumes nothing.
+-- `text::put_report_counts` meets its contract: three numbers, one behind the other. Assumes nothing.
 use Rattle.text.specs.Text.{lineText}
 use Rattle.text.proofs.Laws.{puts-three}
 use borrow.Author.Needs.{needs}
@@ -19,7 +19,11 @@ same-length c = search needs
 
 returns : tie.Need-returns
 unfolding lineText
-returns c = puts-three _ _ _ _ _ _ _ _ _ _ _ (search needs) (c .before .before .before .before .before .before .before .before .before .before .put-number .ensures) (c .before .before .before .before .before .before .put-number2 .ensures) (c .before .before .put-number3 .ensures)
+returns c =
+    let d = c .before .before in
+    let b = d .before .before .before .before in
+    let a = b .before .before .before .before in
+    puts-three _ _ _ _ _ _ _ _ _ _ _ (search needs) (a .put-number .ensures) (b .put-number2 .ensures) (d .put-number3 .ensures)
 
 pub put-report-counts-spec : {M : Type 1} → statement M
 put-report-counts-spec =

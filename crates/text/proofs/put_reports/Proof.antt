@@ -1,4 +1,5 @@
--- No report writes nothing; else, where there is room, their lines. Assumes nothing.
+-- `text::put_reports` meets its contract: no report and no room write nothing, and otherwise `write_reports` has put the lines there.
+-- Assumes nothing.
 use borrow.Author.Needs.{needs}
 use native.Mathlib.Omega.{arith}
 use Rattle.text.proofs.Laws.{room-there, no-room, writes-none, puts-writes}
@@ -21,7 +22,10 @@ same-length : tie.Need-same-length
 same-length c = search needs
 
 returns-3 : tie.Need-returns-3
-returns-3 c = puts-writes _ _ _ _ _ _ (room-there _ _ _ _ (c .before .before .before .before .before .has-room .ensures) (c .before .before .before .before .if2 .left)) (c .before .before .write-reports .ensures)
+returns-3 c =
+    let w = c .before .before in
+    let e = w .before .before in
+    puts-writes _ _ _ _ _ _ (room-there _ _ _ _ (e .before .has-room .ensures) (e .if2 .left)) (w .write-reports .ensures)
 
 pub put-reports-spec : {M : Type 1} → statement M
 put-reports-spec =

@@ -1,7 +1,6 @@
--- The end line. Assumes nothing.
+-- `text::write_end` meets its contract: the word, the counts of bytes, and the rest behind them. Assumes nothing.
 use borrow.Author.Needs.{needs}
-use Rattle.text.specs.Text.{endText}
-use Rattle.text.proofs.Laws.{puts-join, puts-end}
+use Rattle.text.proofs.Laws.{puts-end}
 use Rattle.text.proofs.write_end.Statement.{statement}
 use Rattle.text.proofs.write_end.Tie as tie
 
@@ -21,7 +20,11 @@ same-length : tie.Need-same-length
 same-length c = search needs
 
 returns : tie.Need-returns
-returns c = puts-end _ _ _ _ _ _ _ _ _ _ (search needs) (c .before .before .before .before .before .before .before .before .before .before .put-text .ensures) (c .before .before .before .before .before .before .put-byte-counts .ensures) (c .before .before .put-report-counts .ensures)
+returns c =
+    let d = c .before .before in
+    let b = d .before .before .before .before in
+    let a = b .before .before .before .before in
+    puts-end _ _ _ _ _ _ _ _ _ _ (search needs) (a .put-text .ensures) (b .put-byte-counts .ensures) (d .put-report-counts .ensures)
 
 pub write-end-spec : {M : Type 1} → statement M
 write-end-spec =

@@ -1,4 +1,4 @@
--- A refusal. Assumes nothing.
+-- `text::write_refusal` meets its contract: the word, and the number behind it. Assumes nothing.
 use borrow.Author.Needs.{needs}
 use Rattle.text.specs.Text.{lineText, refusedText}
 use Rattle.text.proofs.Laws.{puts-join}
@@ -19,7 +19,10 @@ same-length c = search needs
 
 returns : tie.Need-returns
 unfolding refusedText lineText
-returns c = puts-join _ _ _ 8 21 _ _ _ _ _ (search needs) (c .before .before .before .before .before .before .put-text .ensures) (c .before .before .put-number .ensures)
+returns c =
+    let b = c .before .before in
+    let a = b .before .before .before .before in
+    puts-join _ _ _ 8 21 _ _ _ _ _ (search needs) (a .put-text .ensures) (b .put-number .ensures)
 
 pub write-refusal-spec : {M : Type 1} → statement M
 write-refusal-spec =

@@ -1,7 +1,8 @@
--- Counts the digits. Assumes nothing.
+-- `text::writing::places` meets its contract: each turn takes one digit off, and the digits counted and left are those of the number.
+-- Assumes nothing.
 use native.Mathlib.Omega.{arith}
 use borrow.Author.Needs.{needs}
-use Rattle.text.proofs.Laws.{Counted, counted-start, counted-on, counted-end}
+use Rattle.text.proofs.Spelling.{Counted, counted-start, counted-on, counted-end}
 use Rattle.text.proofs.writing.places.Statement.{statement}
 use Rattle.text.proofs.writing.places.Tie as tie
 

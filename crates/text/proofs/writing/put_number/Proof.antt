@@ -1,4 +1,4 @@
--- A number. Assumes nothing.
+-- `text::writing::put_number` meets its contract: the digits, and the byte behind them. Assumes nothing.
 use borrow.Author.Needs.{needs}
 use Rattle.text.proofs.Laws.{number-puts}
 use Rattle.text.proofs.writing.put_number.Statement.{statement}
@@ -23,7 +23,10 @@ same-length : tie.Need-same-length
 same-length c = search needs
 
 returns : tie.Need-returns
-returns c = number-puts _ _ _ _ _ _ (c .before .before .before .before .before .before .pre) (c .before .before .before .before .places .ensures .0) (c .before .before .before .before .places .ensures .1) (c .before .before .spell .ensures)
+returns c =
+    let b = c .before .before in
+    let a = b .before .before in
+    number-puts _ _ _ _ _ _ (a .before .before .pre) (a .places .ensures .0) (a .places .ensures .1) (b .spell .ensures)
 
 pub put-number-spec : {M : Type 1} → statement M
 put-number-spec =

@@ -1,4 +1,4 @@
--- A text. Assumes nothing.
+-- `text::writing::put_text` meets its contract: `copy` has put the text there. Assumes nothing.
 use borrow.Author.Needs.{needs}
 use Rattle.text.proofs.Laws.{copied}
 use Rattle.text.proofs.writing.put_text.Statement.{statement}
@@ -23,7 +23,10 @@ same-length : tie.Need-same-length
 same-length c = search needs
 
 returns : tie.Need-returns
-returns c = let a = c .before .before .before .before .before .before .args in copied (a .at) _ (a .s .now) (a .out .now) _ (c .before .before .copy .ensures .0) (c .before .before .before .before .before .before .pre) (c .before .before .copy .ensures .1)
+returns c =
+    let b = c .before .before in
+    let a = b .before .before .before .before in
+    copied (a .args .at) _ (a .args .s .now) (a .args .out .now) _ (b .copy .ensures .0) (a .pre) (b .copy .ensures .1)
 
 pub put-text-spec : {M : Type 1} → statement M
 put-text-spec =

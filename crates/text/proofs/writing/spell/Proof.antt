@@ -1,9 +1,9 @@
--- Spells from the right. Assumes nothing.
+-- `text::writing::spell` meets its contract: each turn writes the last digit that is left, from the right. Assumes nothing.
 use Prim.Native.Nat.{_≤_}
-use mathlib.Core.Path.{_≡_, refl}
+use mathlib.Core.Path.{refl}
 use native.Mathlib.Omega.{arith}
 use borrow.Author.Needs.{needs}
-use Rattle.text.proofs.Laws.{Spelled, spelled-start, spelled-on, spelled-end}
+use Rattle.text.proofs.Spelling.{Spelled, spelled-start, spelled-on, spelled-end}
 use Rattle.text.proofs.writing.spell.Statement.{statement}
 use Rattle.text.proofs.writing.spell.Tie as tie
 
