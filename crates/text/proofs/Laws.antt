@@ -1,23 +1,23 @@
--- What is written, one text behind the other; how long the texts are; and the two promises, one from the other. Assumes nothing.
-use Prim.Native.Nat.{ℕ, suc, _+_, _*_, _-_, _≤_, _<_}
-use mathlib.Core.Path.{_≡_, refl, sym, _∙_, ap}
-use mathlib.Core.Bool.{Bool, true, false, not}
-use mathlib.Core.List.{List, [], _∷_, _++_, append-assoc, append-nil}
-use lib.Dec.{eqb, leb}
-use lib.ListN.{length, take, drop, set, length-append, length-take, length-drop, length-set, take-append-drop, drop-of-length-le}
-use lib.Seq.{length-take-le, take-at, drop-append-add, drop-drop, set-split, take-all}
-use borrow.Rule.Slice.PartMut.{putMid}
-use borrow.Author.Tests.{le-leb, lt-leb, leb-true, leb-false, not-true, not-false, ne-eqb}
+-- Laws for the crates above: texts written one behind the other, how long they are, and the two promises, one from the other.
+-- Assumes nothing.
+use Prim.Native.Nat.{ℕ, _+_, _*_, _≤_}
+use mathlib.Core.Path.{_≡_, refl, sym, _∙_}
+use mathlib.Core.Bool.{Bool, true, false}
+use mathlib.Core.List.{List, [], _∷_, _++_, append-assoc}
+use lib.Dec.{eqb}
+use lib.ListN.{length, take, drop, length-append, length-take, length-drop, take-append-drop}
+use lib.Seq.{length-take-le, take-at, drop-append-add, drop-drop}
+use borrow.Author.Tests.{le-leb}
 use native.Mathlib.Omega.{arith}
 use native.Mathlib.Nat.{add-assoc}
 use Rattle.base.specs.Choice.{if_then_else_}
 use Rattle.reports.specs.declared.Report.{Report}
 use Rattle.reports.specs.declared.Reports.{Reports}
 use Rattle.reports.specs.declared.Counts.{Counts}
-use Rattle.text.specs.Text.{space, lineFeed, placesOf, digitsOf, numberText, spacedText, lineText, headText, reportText, reportsText, refusedText, endText, put, fits, Writes, Puts}
+use Rattle.text.specs.Text.{space, lineFeed, placesOf, numberText, lineText, headText, reportText, reportsText, refusedText, endText, put, Writes, Puts}
 use Rattle.text.proofs.Spelling.{length-digits, places-few}
 
--- one behind the other
+-- a text behind another
 drop-past : (x r : List ℕ) (n m : ℕ) → length x ≡ n → drop (n + m) (x ++ r) ≡ drop m r
 drop-past x r n m e = rw (← e) (drop-append-add x r m)
 
@@ -36,14 +36,20 @@ put-put at p q out h =
       append-assoc p q (drop (at + length p + length q) out),
     )
 
+-- the buffer stays as long as it is
 pub length-put : (at : ℕ) (p out : List ℕ) → at + length p ≤ length out → length (put at p out) ≡ length out
 unfolding put
 length-put at p out h = simp (length-append, length-take, length-drop) (omega arith)
 
-pub put-one : (out : List ℕ) (i b : ℕ) → i < length out → set out i b ≡ put i (b ∷ []) out
+-- nothing
+pub put-nil : (at : ℕ) (out : List ℕ) → put at [] out ≡ out
 unfolding put
-put-one out i b h = let e : suc i ≡ i + 1 = omega arith in rw (set-split out i b h, e)
+put-nil at out = let z : at + 0 ≡ at = omega arith in rw z (take-append-drop at out)
 
+pub puts-nil : (at : ℕ) (out : List ℕ) → Puts at [] 0 out at out
+puts-nil at out = record { place = omega arith; small = omega arith; memory = sym (put-nil at out); kept = refl }
+
+-- two texts written one behind the other are one text written
 pub puts-join : (at : ℕ) (p q : List ℕ) (m n : ℕ) (out : List ℕ) (a : ℕ) (o1 : List ℕ) (r : ℕ) (o2 : List ℕ) → at + m ≤ length out
     → Puts at p m out a o1 → Puts a q n o1 r o2 → Puts at (p ++ q) (m + n) out r o2
 puts-join at p q m n out a o1 r o2 h u v =
@@ -54,57 +60,23 @@ puts-join at p q m n out a o1 r o2 h u v =
       kept = v .kept ∙ u .kept;
     }
 
-pub number-puts : (at k n b : ℕ) (out o1 : List ℕ) → at + 21 ≤ length out → k ≡ placesOf 19 n → k ≤ 20 → o1 ≡ put at (digitsOf k n) out
-    → Puts at (numberText n b) 21 out (at + k + 1) (set o1 (at + k) b)
-unfolding numberText
-number-puts at k n b out o1 h ek small e =
-    let l = length-digits k n in
-    let lp : length (put at (digitsOf k n) out) ≡ length out = length-put at (digitsOf k n) out (omega arith) in
-    let one : set (put at (digitsOf k n) out) (at + k) b ≡ put (at + k) (b ∷ []) (put at (digitsOf k n) out) = put-one (put at (digitsOf k n) out) (at + k) b (omega arith) in
-    let two : put (at + length (digitsOf k n)) (b ∷ []) (put at (digitsOf k n) out) ≡ put at (digitsOf k n ++ (b ∷ [])) out = put-put at (digitsOf k n) (b ∷ []) out (omega arith) in
-    rw (← ek)
-    (record {
-      place = rw (length-append, l) (omega arith);
-      small = rw (length-append, l) (omega arith);
-      memory = rw e (one ∙ (rw l at two));
-      kept = rw e (simp length-set lp);
-    })
+-- the promise of a public function where there is room, and that of the functions below it
+pub puts-writes : (p : List ℕ) (most at : ℕ) (out : List ℕ) (r : ℕ) (after : List ℕ) → at + most ≤ length out → Puts at p most out r after → Writes p most at out r after
+puts-writes p most at out r after h u =
+    let e = le-leb (at + most) (length out) h in
+    record { place = rw e (u .place); memory = rw e (u .memory) }
 
--- what `bytes::copy` into a part leaves
-pub copied : (at n : ℕ) (s out last : List ℕ) → n ≡ length s → at + length s ≤ length out → last ≡ take (length s) s ++ drop (length s) (take (length out - at) (drop at out))
-    → Puts at s (length s) out (at + n) (putMid at (length out - at) out last)
-unfolding put
-copied at n s out last en h e =
-    let m : putMid at (length out - at) out last ≡ take at out ++ (s ++ drop (at + length s) out) =
-    rw (
-      e,
-      take-all (length s) s (omega arith),
-      take-all (length out - at) (drop at out) (omega (arith, length-drop at out)),
-      drop-drop (length s) at out,
-      drop-drop (length out - at) at out,
-      append-assoc s (drop (at + length s) out) _,
-      drop-of-length-le out {i = at + (length out - at)} (omega arith),
-      append-nil (drop (at + length s) out),
-    ) in
-    record {
-      place = ap (λ k. at + k) en;
-      small = omega arith;
-      memory = m;
-      kept = rw m (simp (length-append, length-take, length-drop) (omega arith));
-    }
+pub writes-puts : (p : List ℕ) (most at : ℕ) (out : List ℕ) (r : ℕ) (after : List ℕ) → at + most ≤ length out → length p ≤ most → Writes p most at out r after
+    → Puts at p most out r after
+writes-puts p most at out r after h k w =
+    let e = le-leb (at + most) (length out) h in
+    let m : after ≡ put at p out = rw e at (w .memory) in
+    record { place = rw e at (w .place); small = k; memory = m; kept = rw m (length-put at p out (omega arith)) }
 
--- the text of a number has at most 21 bytes
+-- how long the texts are: a number has at most 21 bytes, with the byte behind it
 pub number-small : (n b : ℕ) → length (numberText n b) ≤ 21
 unfolding numberText
 number-small n b = rw (length-append, length-digits (placesOf 19 n) n) (omega (arith, places-few 19 n))
-
--- lines of numbers
-pub spaced-line : (xs : List ℕ) (y : ℕ) (ys : List ℕ) → spacedText xs ++ lineText (y ∷ ys) ≡ lineText (xs ++ (y ∷ ys))
-unfolding spacedText lineText
-spaced-line [] y ys = refl
-spaced-line (x ∷ []) y ys = append-assoc (numberText x space) [] (lineText (y ∷ ys))
-spaced-line (x ∷ z ∷ xs) y ys =
-    append-assoc (numberText x space) (spacedText (z ∷ xs)) (lineText (y ∷ ys)) ∙ ap (λ l. numberText x space ++ l) (spaced-line (z ∷ xs) y ys)
 
 pub line-small : (ns : List ℕ) → length (lineText ns) ≤ 21 * length ns
 unfolding lineText
@@ -112,7 +84,6 @@ line-small [] = omega arith
 line-small (n ∷ []) = omega (arith, number-small n lineFeed)
 line-small (n ∷ m ∷ ns) = rw (length-append) (omega (arith, number-small n space, line-small (m ∷ ns)))
 
--- the longest texts
 pub head-small : length headText ≤ 31
 unfolding headText
 head-small = omega arith
@@ -139,104 +110,3 @@ refused-small n = omega (arith, line-small (n ∷ []))
 pub end-small : (c : Counts) (held : ℕ) → length (endText c held) ≤ 172
 unfolding endText
 end-small c held = omega (arith, line-small (c .heard ∷ c .framed ∷ c .damaged ∷ c .started ∷ c .outside ∷ c .frames ∷ c .damages ∷ held ∷ []))
-
--- several numbers, one behind the other
-pub puts-three : (at : ℕ) (p q s : List ℕ) (out : List ℕ) (a1 : ℕ) (o1 : List ℕ) (a2 : ℕ) (o2 : List ℕ) (r : ℕ) (o3 : List ℕ) → at + 63 ≤ length out
-    → Puts at p 21 out a1 o1 → Puts a1 q 21 o1 a2 o2 → Puts a2 s 21 o2 r o3 → Puts at (p ++ (q ++ s)) 63 out r o3
-puts-three at p q s out a1 o1 a2 o2 r o3 h u v w =
-    puts-join at p (q ++ s) 21 42 out a1 o1 r o3 (omega arith) u
-    (puts-join a1 q s 21 21 o1 a2 o2 r o3 (omega (arith, u .place, u .small, u .kept)) v w)
-
-pub puts-five : (at : ℕ) (p q s t x : List ℕ) (out : List ℕ) (a1 : ℕ) (o1 : List ℕ) (a2 : ℕ) (o2 : List ℕ) (a3 : ℕ) (o3 : List ℕ) (a4 : ℕ) (o4 : List ℕ) (r : ℕ) (o5 : List ℕ)
-    → at + 105 ≤ length out → Puts at p 21 out a1 o1 → Puts a1 q 21 o1 a2 o2 → Puts a2 s 21 o2 a3 o3 → Puts a3 t 21 o3 a4 o4 → Puts a4 x 21 o4 r o5
-    → Puts at (p ++ (q ++ (s ++ (t ++ x)))) 105 out r o5
-puts-five at p q s t x out a1 o1 a2 o2 a3 o3 a4 o4 r o5 h u v w y z =
-    puts-join at p (q ++ (s ++ (t ++ x))) 21 84 out a1 o1 r o5 (omega arith) u
-    (puts-join a1 q (s ++ (t ++ x)) 21 63 o1 a2 o2 r o5 (omega (arith, u .place, u .small, u .kept)) v
-    (puts-three a2 s t x o2 a3 o3 a4 o4 r o5 (omega (arith, u .place, u .small, u .kept, v .place, v .small, v .kept)) w y z))
-
-pub puts-last : (at : ℕ) (p : List ℕ) (m : ℕ) (out : List ℕ) (r : ℕ) (after : List ℕ) → Puts at p m out r after → Puts at (p ++ []) m out r after
-puts-last at p m out r after u = rw (append-nil p) u
-
-pub put-nil : (at : ℕ) (out : List ℕ) → put at [] out ≡ out
-unfolding put
-put-nil at out = let z : at + 0 ≡ at = omega arith in rw z (take-append-drop at out)
-
--- nothing
-pub puts-nil : (at : ℕ) (out : List ℕ) → Puts at [] 0 out at out
-puts-nil at out = record { place = omega arith; small = omega arith; memory = sym (put-nil at out); kept = refl }
-
--- the two promises
-pub puts-writes : (p : List ℕ) (most at : ℕ) (out : List ℕ) (r : ℕ) (after : List ℕ) → at + most ≤ length out → Puts at p most out r after → Writes p most at out r after
-puts-writes p most at out r after h u =
-    let e = le-leb (at + most) (length out) h in
-    record { place = rw e (u .place); memory = rw e (u .memory) }
-
-pub writes-puts : (p : List ℕ) (most at : ℕ) (out : List ℕ) (r : ℕ) (after : List ℕ) → at + most ≤ length out → length p ≤ most → Writes p most at out r after
-    → Puts at p most out r after
-writes-puts p most at out r after h k w =
-    let e = le-leb (at + most) (length out) h in
-    let m : after ≡ put at p out = rw e at (w .memory) in
-    record { place = rw e at (w .place); small = k; memory = m; kept = rw m (length-put at p out (omega arith)) }
-
--- the test of the room
-room-by : (b : Bool) (len at most : ℕ) → leb (at + most) len ≡ b → at ≤ len → leb most (len - at) ≡ b
-room-by true len at most e h = le-leb most (len - at) (omega (arith, leb-true (at + most) len e))
-room-by false len at most e h = lt-leb most (len - at) (omega (arith, leb-false (at + most) len e))
-
-pub room-behind : (len at most : ℕ) → at ≤ len → leb most (len - at) ≡ leb (at + most) len
-room-behind len at most h = room-by (leb (at + most) len) len at most refl h
-
-pub room-there : (h : Bool) (len at most : ℕ) → h ≡ leb (at + most) len → not h ≡ false → at + most ≤ len
-room-there h len at most e t = leb-true (at + most) len (sym e ∙ not-false h t)
-
-pub no-room : (p : List ℕ) (most at : ℕ) (out : List ℕ) (h : Bool) → h ≡ leb (at + most) (length out) → not h ≡ true → Writes p most at out at out
-no-room p most at out h e f =
-    let g : leb (at + most) (length out) ≡ false = sym e ∙ not-true h f in
-    record { place = rw g; memory = rw g }
-
--- nothing to write, with room or without
-both-same : (b : Bool) {A : Type 0} (x : A) → x ≡ (if b then x else x)
-both-same true x = refl
-both-same false x = refl
-
-pub none-writes : (most at : ℕ) (out : List ℕ) → Writes [] most at out at out
-none-writes most at out =
-    let z : at + 0 ≡ at = omega arith in
-    record { place = rw z (both-same (fits at most out) at); memory = rw (put-nil at out) (both-same (fits at most out) out) }
-
--- the end line in three parts
-pub puts-end : (at : ℕ) (c : Counts) (held : ℕ) (out : List ℕ) (a1 : ℕ) (o1 : List ℕ) (a2 : ℕ) (o2 : List ℕ) (r : ℕ) (o3 : List ℕ) → at + 172 ≤ length out
-    → Puts at (101 ∷ 110 ∷ 100 ∷ space ∷ []) 4 out a1 o1 → Puts a1 (spacedText (c .heard ∷ c .framed ∷ c .damaged ∷ c .started ∷ c .outside ∷ [])) 105 o1 a2 o2
-    → Puts a2 (lineText (c .frames ∷ c .damages ∷ held ∷ [])) 63 o2 r o3 → Puts at (endText c held) 172 out r o3
-unfolding endText
-puts-end at c held out a1 o1 a2 o2 r o3 h u v w =
-    rw (← (spaced-line (c .heard ∷ c .framed ∷ c .damaged ∷ c .started ∷ c .outside ∷ []) (c .frames) (c .damages ∷ held ∷ [])))
-    (puts-join at _ _ 4 168 out a1 o1 r o3 (omega arith) u (puts-join a1 _ _ 105 63 o1 a2 o2 r o3 (omega (arith, u .place, u .small, u .kept)) v w))
-
--- the reports of an event, by their number
-puts-wider : (at : ℕ) (p : List ℕ) (m n : ℕ) (out : List ℕ) (r : ℕ) (after : List ℕ) → m ≤ n → Puts at p m out r after → Puts at p n out r after
-puts-wider at p m n out r after h u = record { place = u .place; small = omega (arith, u .small); memory = u .memory; kept = u .kept }
-
-pub writes-none : (rs : Reports) (most at : ℕ) (out : List ℕ) → rs .n ≡ 0 → Writes (reportsText rs) most at out at out
-unfolding reportsText
-writes-none rs most at out e = rw e (none-writes most at out)
-
-pub puts-one : (at : ℕ) (rs : Reports) (out : List ℕ) (r : ℕ) (o1 : List ℕ) → rs .n ≡ 1 → Puts at (reportText (rs .a)) 105 out r o1
-    → Puts at (reportsText rs) 315 out r o1
-unfolding reportsText
-puts-one at rs out r o1 e u = rw e (puts-wider at _ 105 315 out r o1 (omega arith) u)
-
-pub puts-two : (at : ℕ) (rs : Reports) (out : List ℕ) (a1 : ℕ) (o1 : List ℕ) (r : ℕ) (o2 : List ℕ) → at + 315 ≤ length out → rs .n ≡ 2
-    → Puts at (reportText (rs .a)) 105 out a1 o1 → Puts a1 (reportText (rs .b)) 105 o1 r o2 → Puts at (reportsText rs) 315 out r o2
-unfolding reportsText
-puts-two at rs out a1 o1 r o2 h e u v =
-    rw e (puts-wider at _ 210 315 out r o2 (omega arith) (puts-join at _ _ 105 105 out a1 o1 r o2 (omega arith) u v))
-
-pub puts-all : (at : ℕ) (rs : Reports) (out : List ℕ) (a1 : ℕ) (o1 : List ℕ) (a2 : ℕ) (o2 : List ℕ) (r : ℕ) (o3 : List ℕ) → at + 315 ≤ length out
-    → 1 ≤ rs .n → (rs .n ≡ 1 → ⊥) → (rs .n ≡ 2 → ⊥) → Puts at (reportText (rs .a)) 105 out a1 o1 → Puts a1 (reportText (rs .b)) 105 o1 a2 o2
-    → Puts a2 (reportText (rs .c)) 105 o2 r o3 → Puts at (reportsText rs) 315 out r o3
-unfolding reportsText
-puts-all at rs out a1 o1 a2 o2 r o3 h n0 n1 n2 u v w =
-    rw (ne-eqb (rs .n) 0 (λ e. omega arith), ne-eqb (rs .n) 1 n1, ne-eqb (rs .n) 2 n2)
-    (puts-join at _ _ 105 210 out a1 o1 r o3 (omega arith) u (puts-join a1 _ _ 105 105 o1 a2 o2 r o3 (omega (arith, u .place, u .small, u .kept)) v w))

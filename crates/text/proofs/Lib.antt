@@ -1,4 +1,5 @@
 pub mod Spelling
 pub mod Laws
+pub mod Parts
 pub mod Numbers
 pub mod One

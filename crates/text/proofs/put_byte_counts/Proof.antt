@@ -1,6 +1,6 @@
 -- `text::put_byte_counts` meets its contract: five numbers, one behind the other. Assumes nothing.
 use Rattle.text.specs.Text.{spacedText}
-use Rattle.text.proofs.Laws.{puts-five, puts-last}
+use Rattle.text.proofs.Parts.{puts-five, puts-last}
 use borrow.Author.Needs.{needs}
 use Rattle.text.proofs.put_byte_counts.Statement.{statement}
 use Rattle.text.proofs.put_byte_counts.Tie as tie

@@ -1,7 +1,8 @@
 -- `text::put_head` meets its contract: where there is no room nothing is written, and otherwise `put_text` has put the header there. Assumes nothing.
 use borrow.Author.Needs.{needs}
 use Rattle.text.specs.Text.{headText}
-use Rattle.text.proofs.Laws.{room-there, no-room, puts-writes}
+use Rattle.text.proofs.Laws.{puts-writes}
+use Rattle.text.proofs.Parts.{room-there, no-room}
 use Rattle.text.proofs.put_head.Statement.{statement}
 use Rattle.text.proofs.put_head.Tie as tie
 

@@ -1,6 +1,6 @@
 -- `text::put_report` meets its contract: five numbers, one behind the other. Assumes nothing.
 use Rattle.text.specs.Text.{lineText, reportText}
-use Rattle.text.proofs.Laws.{puts-five}
+use Rattle.text.proofs.Parts.{puts-five}
 use borrow.Author.Needs.{needs}
 use Rattle.text.proofs.put_report.Statement.{statement}
 use Rattle.text.proofs.put_report.Tie as tie

@@ -1,6 +1,6 @@
 -- `text::put_report_counts` meets its contract: three numbers, one behind the other. Assumes nothing.
 use Rattle.text.specs.Text.{lineText}
-use Rattle.text.proofs.Laws.{puts-three}
+use Rattle.text.proofs.Parts.{puts-three}
 use borrow.Author.Needs.{needs}
 use Rattle.text.proofs.put_report_counts.Statement.{statement}
 use Rattle.text.proofs.put_report_counts.Tie as tie

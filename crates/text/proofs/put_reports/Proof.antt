@@ -2,7 +2,8 @@
 -- Assumes nothing.
 use borrow.Author.Needs.{needs}
 use native.Mathlib.Omega.{arith}
-use Rattle.text.proofs.Laws.{room-there, no-room, writes-none, puts-writes}
+use Rattle.text.proofs.Laws.{puts-writes}
+use Rattle.text.proofs.Parts.{room-there, no-room, writes-none}
 use Rattle.text.proofs.put_reports.Statement.{statement}
 use Rattle.text.proofs.put_reports.Tie as tie
 

@@ -1,6 +1,6 @@
 -- `text::write_reports` meets its contract: as many lines as there are reports, one behind the other. Assumes nothing.
 use borrow.Author.Needs.{needs}
-use Rattle.text.proofs.Laws.{puts-one, puts-two, puts-all}
+use Rattle.text.proofs.Parts.{puts-one, puts-two, puts-all}
 use Rattle.text.proofs.write_reports.Statement.{statement}
 use Rattle.text.proofs.write_reports.Tie as tie
 

@@ -3,7 +3,7 @@ use mathlib.Core.Path.{sym}
 use Prim.Native.Nat.{_+_}
 use native.Mathlib.Omega.{arith}
 use borrow.Author.Tests.{lt-leb}
-use Rattle.text.proofs.Laws.{room-behind}
+use Rattle.text.proofs.Parts.{room-behind}
 use Rattle.text.proofs.writing.has_room.Statement.{statement}
 use Rattle.text.proofs.writing.has_room.Tie as tie
 

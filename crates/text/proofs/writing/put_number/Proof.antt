@@ -1,6 +1,6 @@
 -- `text::writing::put_number` meets its contract: the digits, and the byte behind them. Assumes nothing.
 use borrow.Author.Needs.{needs}
-use Rattle.text.proofs.Laws.{number-puts}
+use Rattle.text.proofs.Parts.{number-puts}
 use Rattle.text.proofs.writing.put_number.Statement.{statement}
 use Rattle.text.proofs.writing.put_number.Tie as tie
 

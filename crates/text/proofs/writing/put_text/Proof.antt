@@ -1,6 +1,6 @@
 -- `text::writing::put_text` meets its contract: `copy` has put the text there. Assumes nothing.
 use borrow.Author.Needs.{needs}
-use Rattle.text.proofs.Laws.{copied}
+use Rattle.text.proofs.Parts.{copied}
 use Rattle.text.proofs.writing.put_text.Statement.{statement}
 use Rattle.text.proofs.writing.put_text.Tie as tie
 
