@@ -1,10 +1,10 @@
 -- The short ways of the code are the rules' own: where no time runs out, passing time changes nothing; and a byte that makes no report is answered
--- with the link gone on. Assumes nothing.
+-- with the link gone on. An event that runs on is such a byte. Assumes nothing.
 use Prim.Native.Nat.{ℕ}
 use mathlib.Core.Bool.{Bool, true, false, not, _&&_, _||_, false≢true}
 use mathlib.Core.Path.{_≡_, _∙_, refl, sym, ap}
 use lib.Dec.{eqb}
-use borrow.Author.Tests.{eq-eqb, not-true}
+use borrow.Author.Tests.{eq-eqb, eqb-true, not-true}
 use Rattle.base.specs.Choice.{if_then_else_}
 use Rattle.base.specs.Numbers.{taken}
 use Rattle.base.specs.Reports.{noReason}
@@ -29,11 +29,13 @@ use Rattle.moves.specs.Moves.{reasonAtFirst, firstByte, laterByte, byteIn, afte
 use Rattle.phases.specs.declared.State.{State}
 use Rattle.phases.specs.declared.State.the-variants.{Down, Starting, Quiet, Held, Damage}
 use Rattle.phases.specs.declared.Phase.{Phase}
-use Rattle.reports.specs.Reporting.{moved}
+use Rattle.reports.specs.Reporting.{moved, noReports}
+use Rattle.reports.specs.Counting.{countedEvent}
 use Rattle.link.specs.Handling.{passed, hearing, byteHeard, actedBy, acted, handled, markAfter, linkAfter}
 use Rattle.link.specs.Handling.{begun as begins}
-use Rattle.link.specs.Stepping.{numberOf, takenBy, answerOf}
+use Rattle.link.specs.Stepping.{numberOf, takenBy, answerOf, countsAfter, stepOf}
 use Rattle.link.specs.Quick.{limitOf, calmIn, isCalm, wentOn, goesOn, isFirstByte}
+use Rattle.link.specs.Running.{runsOn, ranOn}
 use Rattle.link.specs.declared.Link.{Link}
 use Rattle.reports.specs.declared.Counts.{Counts}
 use Rattle.reports.specs.declared.Run.{Run}
@@ -239,3 +241,19 @@ on-step l c e t h =
     byte-step l c e _ t (z .0) (held-calm (l .phase .state) (l .phase) (l .mark) (e .start) (z .1) (y .1))
     (held-byte (l .phase .state) (l .phase) (e .side) (e .value) (l .mark) (e .start) (z .1) ∙ later-on (l .phase) (e .side) (e .value) (s .0) (s .1))
     (not-stopped _ (holding-open (l .phase) (grown (l .phase .message) (e .value))))
+
+-- ---- an event that runs on: it is a byte, and this is its whole step
+pub runs-byte : (l : Link) (c : Counts) (e : Event) → runsOn l c e ≡ true → isByte (e .kind) ≡ true
+unfolding runsOn goesOn
+runs-byte l c e h =
+    let x = and-split (eqb (numberOf l c e) taken) _ h in
+    let y = and-split (isByte (e .kind) && isHeld (l .phase .state) && not (isSilent (gapOf (l .mark) (e .start)))) _ (x .1) in
+    let z = and-split (isByte (e .kind) && isHeld (l .phase .state)) _ (y .0) in
+    and-split (isByte (e .kind)) _ (z .0) .0
+
+pub runs-on : (l : Link) (c : Counts) (e : Event) → runsOn l c e ≡ true
+    → stepOf l c e ≡ record { answer = record { link = ranOn l e; reports = noReports; no = taken }; counts = countedEvent c true noReports }
+unfolding runsOn stepOf countsAfter wentOn ranOn
+runs-on l c e h =
+    let x = and-split (eqb (numberOf l c e) taken) (goesOn l e) h in
+    rw (← (on-step l c e (eqb-true _ _ (x .0)) (x .1)), runs-byte l c e h) refl

@@ -1,3 +1,4 @@
 pub mod Handling
 pub mod Stepping
 pub mod Quick
+pub mod Running

@@ -1,10 +1,13 @@
 // The link: events in, reports out, and the counts brought up to date.
 mod quick;
+mod running;
 mod stepping;
 
 use phases::Phase;
 use reports::Counts;
 use reports::Reports;
+pub use running::run_on;
+pub use running::runs_on;
 pub use stepping::counted;
 pub use stepping::fresh;
 pub use stepping::respond;

@@ -157,7 +157,7 @@ fn finish(l: Link, e: Event, r: Run) -> Link
 }
 
 // The number of an event.
-fn number(l: Link, c: Counts, e: Event) -> u8
+pub(crate) fn number(l: Link, c: Counts, e: Event) -> u8
     ensures { λ x. ⌜ x ≡ numberOf l c e ⌝ }
 {
     events::refused(l.clock, reports::is_full(l.taken, c), e)
