@@ -1,0 +1,4 @@
+-- The laws and theorems of the crate.
+pub mod Laws
+pub mod Parts
+pub mod Ways
