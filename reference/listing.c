@@ -5,8 +5,8 @@
  *     listing [FILE]
  *
  * reads events, one a line, from FILE or from standard input and writes the listing to standard output.
- * Compiled with -DTALLY it also says on standard error, at the end, how often every report with its reason and
- * every refusal came.
+ * Compiled with -DTALLY it also says on standard error, at the end, how many events it took and how often every
+ * report with its reason and every refusal came.
  *
  * All times are in microseconds. Memory is constant; a line may have any length and any bytes.
  */
@@ -102,8 +102,9 @@ static void put_number(uint64_t number)
 static unsigned long seen_report[9][10];
 static unsigned long seen_refusal[5];
 
-static void print_tally(void)
+static void print_tally(uint64_t events)
 {
+    fprintf(stderr, "taken %llu\n", (unsigned long long)events);
     for (int number = 1; number < 9; number++)
         for (int reason = 0; reason < 10; reason++)
             if (seen_report[number][reason])
@@ -875,7 +876,7 @@ int main(int argc, char **argv)
     put_end(&link);
     flush();
 #ifdef TALLY
-    print_tally();
+    print_tally(link.events);
 #endif
     return 0;
 }
