@@ -48,7 +48,10 @@ class Talk(Sessions):
     def change_timing(self):
         d = self.dice
         asked = [0x83, 0x03] + self.codes() if not d.one_in(4) else [0x83, 0x01]
-        self.ask_and_answer(asked, [0xC3, asked[1]] if not d.one_in(5) else d.pick([0x7F, 0x83, 0x11], [0xC3], [0xC3, 0x01], [0xC3, 0x03]))
+        given = [0xC3, asked[1]] if not d.one_in(5) else d.pick([0x7F, 0x83, 0x11], [0xC3], [0xC3, 0x01], [0xC3, 0x03])
+        if d.one_in(8):
+            asked = d.pick(asked[:-1], asked + [d.below(256)])
+        self.ask_and_answer(asked, given)
 
     def codes(self):
         """Mostly allowed ones, and ones beside them."""
@@ -94,7 +97,7 @@ class Talk(Sessions):
         return self
 
 
-# ---- every key byte, first byte and timing code
+# ---- every key byte, byte of an initialization, first byte of a message and timing code
 
 
 class Sweep(Sessions):
@@ -105,8 +108,8 @@ class Sweep(Sessions):
         at = max(self.link.mark + gap, self.link.clock)
         self.send("T", "", 0, at, at)
 
-    def hear(self, side, value, gap):
-        at = max(self.link.mark + gap, self.link.clock)
+    def hear(self, side, value, gap, since=None):
+        at = max((self.link.mark if since is None else since) + gap, self.link.clock)
         self.send("B", side, value, at, at + 960)
 
     def connect(self, kb1, kb2=0x8F):
@@ -119,6 +122,20 @@ class Sweep(Sessions):
         for value in range(256):
             self.connect(value)
             self.connect(0xEF, value)
+        return self
+
+    def initializations(self):
+        """Both with every value at every place, up to the byte that fails."""
+        for kind, script in (("A", "55EF8F70CC"), ("W", "8111F1810480F11103C1EF8FC4")):
+            script = bytes.fromhex(script)
+            for place in range(len(script)):
+                for value in range(256):
+                    at = max(self.link.mark + 300_000, self.link.clock)
+                    self.send(kind, "", 0x33, at, at + 25_000)
+                    for i, right in enumerate(script):
+                        if self.link.state == "init":
+                            side, gap, _, _ = self.link.due
+                            self.hear(side, value if i == place else right, gap, self.link.origin())
         return self
 
     def first_bytes(self):
@@ -257,6 +274,11 @@ def every_byte():
     return out
 
 
+def tails():
+    """Long lines that end in what would be a good one, the rest of it having any of many sizes."""
+    return [b"x" * n + b"T %d" % (n * 1000) for n in range(1, 120)]
+
+
 def mixed(d, events, one_bad_in, one_changed_in, long_lines):
     """The lines of events, with bad ones between them; some of them changed where the list is of that kind."""
     out = []
@@ -288,8 +310,10 @@ def fixed_lists():
     yield from (b"", b"\n", b"\n\n\n", b"T 5", b"T 5\n", b" ", b"\0", b"T 5\n\n", b"T 5\r\n", b"T 4000000000000\nT 4000000000001\n")
     yield from (own, own[:-1], own + b"\n", own[:-1] + b"\r", b"\n" + own)
     yield from (text(map(line, s.events)) for s in scripts())
-    yield from (text(map(line, s.events)) for s in (Sweep().keys(), Sweep().first_bytes(), Sweep().codes()))
+    yield from (text(map(line, s.events)) for s in (Sweep().keys(), Sweep().initializations(), Sweep().first_bytes(), Sweep().codes()))
     yield text(every_byte())
+    yield text(tails())
+    yield from (b"x" * size + b"T 5\nT 4\n" for size in (256, 512, 1024, 2048, 4096, 8192, 16_384, 32_768, 65_536, 131_072))
 
 
 def ended(d, whole):
