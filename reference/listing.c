@@ -733,14 +733,23 @@ static bool read_value(struct text *text, uint8_t *value)
 /* 1 to 13 digits; a 14th is left standing, where no line can go on with it. */
 static bool read_time(struct text *text, uint64_t *time)
 {
-    int digits = 0;
+    const unsigned char *at = text->at;
+    const unsigned char *end = text->end - at > 13 ? at + 13 : text->end;
+    uint64_t number = 0;
 
-    *time = 0;
-    while (digits < 13 && text->at < text->end && *text->at >= '0' && *text->at <= '9') {
-        *time = *time * 10 + (uint64_t)(*text->at++ - '0');
-        digits++;
+    while (at < end) {
+        unsigned digit = *at - (unsigned)'0';
+
+        if (digit > 9)
+            break;
+        number = number * 10 + digit;
+        at++;
     }
-    return digits > 0;
+    if (at == text->at)
+        return false;
+    text->at = at;
+    *time = number;
+    return true;
 }
 
 static bool read_times(struct text *text, struct event *event)
