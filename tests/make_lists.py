@@ -1,6 +1,6 @@
 #!/usr/bin/env python3
 """Writes event lists for the listing program, made up from a seed: sessions with times on and one beside the edge of every window, and, among their
-lines, ones that can't be read. Some lists go through every key byte, timing code and first byte, and every byte at every place of a line.
+lines, ones that can't be read. Some lists go through every key byte, timing code and first byte, and any byte at every place of a line.
 
 Use: tests/make_lists.py SEED EVENTS DIR (some 300 files into DIR, which must not be there yet, with at least EVENTS events to be taken)
 """
@@ -97,7 +97,7 @@ class Talk(Sessions):
         return self
 
 
-# ---- every key byte, byte of an initialization, first byte of a message and timing code
+# ---- every key byte, byte of an initialization, first byte of a message, timing code and answer
 
 
 class Sweep(Sessions):
@@ -146,16 +146,35 @@ class Sweep(Sessions):
                 self.wait(20_001)
         return self
 
+    def ask_and_answer(self, asked, given):
+        self.whole("t", asked, self.link.windows[2])
+        self.whole("e", given, self.link.windows[0])
+
     def codes(self):
         for place in range(5):
             for code in range(256):
-                codes = [0x04, 0x01, 0x0C, 0x04, 0x04]
+                codes = [0x04, 0x01, 0x6E if place == 4 else 0x0C, 0x04, 0x04]
                 codes[place] = code
-                if self.link.state != "up" or self.link.awaited == "first":
+                if self.link.state != "up" or self.link.awaited == "first" or place == 4:
                     self.connect(0x67 if code % 2 else 0xD5)
-                self.whole("t", [0x83, 0x03] + codes, self.link.windows[2])
-                self.whole("e", [0xC3, 0x03], self.link.windows[0])
+                self.ask_and_answer([0x83, 0x03] + codes, [0xC3, 0x03])
                 self.probe(place)
+        return self
+
+    def answers(self):
+        """Requests that take effect, and ones beside them, with answers of either sort, under windows that are not KB1's."""
+        codes = [0x00, 0x28, 0x20, 0x14, 0x0A]
+        asked = [[0x82], [0x82, 1], [0x83], [0x83, 1], [0x83, 1, 1], [0x83, 1] + codes, [0x83, 2], [0x83, 2] + codes, [0x83, 3], [0xC2], [0x3E]]
+        asked += [[0x83, 3] + codes[:4], [0x83, 3] + codes, [0x83, 3] + codes + [1]]
+        given = [[0xC2], [0xC2, 1], [0xC3], [0xC3, 1], [0xC3, 1, 1], [0xC3, 2], [0xC3, 3], [0xC3, 3, 1], [0xC3, 3] + codes]
+        given += [[0x82], [0x83, 1], [0x83, 3]]
+        for i, a in enumerate(asked):
+            for g in given:
+                self.connect(0x67 if i % 2 else 0xD5)
+                self.ask_and_answer([0x83, 0x03, 0x04, 0x01, 0x0C, 0x04, 0x04], [0xC3, 0x03])
+                self.ask_and_answer(a, g)
+                if self.link.state == "up":
+                    self.probe(2)
         return self
 
     def probe(self, place):
@@ -310,7 +329,8 @@ def fixed_lists():
     yield from (b"", b"\n", b"\n\n\n", b"T 5", b"T 5\n", b" ", b"\0", b"T 5\n\n", b"T 5\r\n", b"T 4000000000000\nT 4000000000001\n")
     yield from (own, own[:-1], own + b"\n", own[:-1] + b"\r", b"\n" + own)
     yield from (text(map(line, s.events)) for s in scripts())
-    yield from (text(map(line, s.events)) for s in (Sweep().keys(), Sweep().initializations(), Sweep().first_bytes(), Sweep().codes()))
+    for sweep in (Sweep.keys, Sweep.initializations, Sweep.first_bytes, Sweep.codes, Sweep.answers):
+        yield text(map(line, sweep(Sweep()).events))
     yield text(every_byte())
     yield text(tails())
     yield from (b"x" * size + b"T 5\nT 4\n" for size in (256, 512, 1024, 2048, 4096, 8192, 16_384, 32_768, 65_536, 131_072))
