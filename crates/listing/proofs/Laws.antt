@@ -1,0 +1,278 @@
+-- Laws of lines within a part. Assumes nothing.
+use Prim.Native.Nat.{ℕ, zero, suc, _+_, _-_, _≤_, _<_}
+use mathlib.Core.Path.{_≡_, refl, sym, _∙_, ap}
+use mathlib.Core.Bool.{Bool, true, false, not, _&&_}
+use mathlib.Core.List.{List, [], _∷_, _++_, append-nil, append-assoc}
+use lib.Dec.{eqb, leb, ltb}
+use lib.ListN.{length, drop, length-append, length-drop, drop-of-length-le}
+use lib.Seq.{drop-drop, drop-cons}
+use borrow.Author.Tests.{eq-eqb, ne-eqb, le-leb, lt-leb, lt-ltb, le-ltb, leb-true, ltb-true, ltb-false}
+use native.Mathlib.Omega.{arith}
+use native.Mathlib.Nat.{zero-add}
+use Rattle.base.specs.Choice.{if_then_else_}
+use Rattle.base.specs.Numbers.{taken}
+use Rattle.base.proofs.Tests.{and-split}
+use Rattle.events.specs.declared.Event.{Event}
+use Rattle.reports.specs.Reporting.{noReports}
+use Rattle.link.specs.Stepping.{stepOf}
+use Rattle.link.specs.Running.{runsOn}
+use Rattle.link.specs.declared.Answer.{Answer}
+use Rattle.link.specs.declared.Stepped.{Stepped}
+use Rattle.link.proofs.Ways.{runs-on}
+use Rattle.lines.specs.Lines.{freshReading, readByte, isLetter, isEmpty, eventOf}
+use Rattle.lines.specs.Getting.{gotOf, ended, cutOff}
+use Rattle.lines.specs.Quick.{rowOf, rowGot}
+use Rattle.lines.specs.declared.Reading.{Reading}
+use Rattle.lines.specs.declared.Got.{Got}
+use Rattle.lines.specs.declared.Row.{Row}
+use Rattle.lines.proofs.Ways.{row-line}
+use Rattle.text.specs.Text.{reportsText, refusedText, endText, put, Puts, Writes}
+use Rattle.text.proofs.Laws.{puts-join, puts-nil, put-nil, puts-writes, writes-puts, reports-small, refused-small, end-small}
+use Rattle.listing.specs.Listing.{Feed, answerText, stepped, saidOf, closed, withReading, feedByte, finished, heldOf, endingOf, runsBy, ranLister}
+use Rattle.listing.specs.Parts.{most, Taken, takes, partOf, Parted}
+use Rattle.listing.specs.Turns.{Acted, Glided, Turned, Ended}
+use Rattle.listing.specs.declared.Lister.{Lister}
+use Rattle.listing.specs.declared.Part.{Part}
+use Rattle.listing.specs.declared.Stretch.{Stretch}
+
+-- ---- a line out of a part
+-- it only goes on
+ahead-by : (r : Reading) (b : ℕ) (bs : List ℕ) (at : ℕ) (t : Bool) → eqb b 10 ≡ t → at + 1 ≤ gotOf (readByte r b) bs (at + 1) .at → at + 1 ≤ gotOf r (b ∷ bs) at .at
+unfolding gotOf ended
+ahead-by r b bs at true e h = rw e (omega arith)
+ahead-by r b bs at false e h = rw e h
+
+got-behind : (r : Reading) (bs : List ℕ) (at : ℕ) → at ≤ gotOf r bs at .at
+unfolding gotOf cutOff
+got-behind r [] at = omega arith
+got-behind r (b ∷ bs) at = let h = ahead-by r b bs at (eqb b 10) refl (got-behind (readByte r b) bs (at + 1)) in omega arith
+
+got-ahead : (r : Reading) (bs : List ℕ) (at : ℕ) → 0 < length bs → at < gotOf r bs at .at
+got-ahead r [] at k = absurd (omega arith)
+got-ahead r (b ∷ bs) at k = let h = ahead-by r b bs at (eqb b 10) refl (got-behind (readByte r b) bs (at + 1)) in omega arith
+
+-- what a listing becomes by it
+abbrev gotten : Feed → Got → Feed
+gotten f g =
+    if g .whole then record { lister = stepped (f .lister) (g .event); said = f .said ++ saidOf (f .lister) (g .event) } else
+    record { lister = withReading (f .lister) (g .reading); said = f .said }
+
+line-by : (room b : ℕ) (bs : List ℕ) (f : Feed) (at : ℕ) (t : Bool) → eqb b 10 ≡ t → length (f .said) ≤ room
+    → (f2 : Feed) → f2 ≡ record { lister = withReading (f .lister) (readByte (f .lister .reading) b); said = f .said }
+    → takes room f2 bs (at + 1) ≡ takes room (gotten f (gotOf (readByte (f .lister .reading) b) bs (at + 1)))
+      (drop (gotOf (readByte (f .lister .reading) b) bs (at + 1) .at - (at + 1)) bs) (gotOf (readByte (f .lister .reading) b) bs (at + 1) .at)
+    → takes room f (b ∷ bs) at ≡ takes room (gotten f (gotOf (f .lister .reading) (b ∷ bs) at)) (drop (gotOf (f .lister .reading) (b ∷ bs) at .at - at) (b ∷ bs)) (gotOf (f .lister .reading) (b ∷ bs) at .at)
+unfolding takes gotOf feedByte closed ended
+line-by room b bs f at true e h f2 ef g = let z : at + 1 - at ≡ 1 = omega arith in rw (le-leb (length (f .said)) room h, e, z)
+line-by room b bs f at false e h f2 ef g =
+    let k = got-behind (readByte (f .lister .reading) b) bs (at + 1) in
+    let z : gotOf (readByte (f .lister .reading) b) bs (at + 1) .at - at ≡ suc (gotOf (readByte (f .lister .reading) b) bs (at + 1) .at - (at + 1)) = omega arith in
+    rw (le-leb (length (f .said)) room h, e, z) (rw ef at g)
+
+takes-line : (room : ℕ) (bs : List ℕ) (f : Feed) (at : ℕ) → length (f .said) ≤ room
+    → takes room f bs at ≡ takes room (gotten f (gotOf (f .lister .reading) bs at)) (drop (gotOf (f .lister .reading) bs at .at - at) bs) (gotOf (f .lister .reading) bs at .at)
+unfolding takes gotOf cutOff stepped saidOf
+takes-line room [] f at h = let z : at - at ≡ 0 = omega arith in rw z
+takes-line room (b ∷ bs) f at h =
+    line-by room b bs f at (eqb b 10) refl h _ refl
+    (takes-line room bs (record { lister = withReading (f .lister) (readByte (f .lister .reading) b); said = f .said }) (at + 1) h)
+
+takes-got : (room : ℕ) (f : Feed) (s : List ℕ) (at : ℕ) (g : Got) → g ≡ gotOf (f .lister .reading) (drop at s) at → length (f .said) ≤ room
+    → takes room f (drop at s) at ≡ takes room (gotten f g) (drop (g .at) s) (g .at)
+takes-got room f s at g e h =
+    let k = got-behind (f .lister .reading) (drop at s) at in
+    let z : at + (gotOf (f .lister .reading) (drop at s) at .at - at) ≡ gotOf (f .lister .reading) (drop at s) at .at = omega arith in
+    rw e
+    (takes-line room (drop at s) f at h
+    ∙ ap (λ (x : List ℕ). takes room (gotten f (gotOf (f .lister .reading) (drop at s) at)) x (gotOf (f .lister .reading) (drop at s) at .at))
+      (drop-drop (gotOf (f .lister .reading) (drop at s) at .at - at) at s ∙ ap (λ (n : ℕ). drop n s) z))
+
+-- ---- a line that was taken
+line-behind : (l : Lister) (s : List ℕ) (at : ℕ) (g : Got) → g ≡ gotOf (l .reading) (drop at s) at → at ≤ g .at
+line-behind l s at g e = rw e (got-behind (l .reading) (drop at s) at)
+
+line-ahead : (l : Lister) (s : List ℕ) (at : ℕ) (g : Got) → g ≡ gotOf (l .reading) (drop at s) at → at < length s → at < g .at
+line-ahead l s at g e h = rw e (got-ahead (l .reading) (drop at s) at (rw (length-drop at s) (omega arith)))
+
+whole-on : (room : ℕ) (l : Lister) (s o : List ℕ) (at : ℕ) (g : Got) → g ≡ gotOf (l .reading) (drop at s) at → g .whole ≡ true → length o ≤ room
+    → takes room (record { lister = l; said = o }) (drop at s) at
+    ≡ takes room (record { lister = stepped l (g .event); said = o ++ saidOf l (g .event) }) (drop (g .at) s) (g .at)
+whole-on room l s o at g e w h = let t = takes-got room (record { lister = l; said = o }) s at g e h in rw w at t
+
+cut-on : (room : ℕ) (l : Lister) (s o : List ℕ) (at : ℕ) (g : Got) → g ≡ gotOf (l .reading) (drop at s) at → g .whole ≡ false → length o ≤ room
+    → takes room (record { lister = l; said = o }) (drop at s) at ≡ takes room (record { lister = withReading l (g .reading); said = o }) (drop (g .at) s) (g .at)
+cut-on room l s o at g e w h = let t = takes-got room (record { lister = l; said = o }) s at g e h in rw w at t
+
+pub turned-act : (l : Lister) (s : List ℕ) (at n : ℕ) (out : List ℕ) (g : Got) (r : Part) (after : List ℕ) → g ≡ gotOf (l .reading) (drop at s) at → g .whole ≡ true
+    → Acted l (g .event) (g .at) n out r after → Turned l s at n out r after
+turned-act l s at n out g r after e w a = record {
+  said = saidOf l (g .event);
+  behind = rw (a .place) (line-behind l s at g e);
+  ahead = λ h. rw (a .place) (line-ahead l s at g e h);
+  same = λ room o h. rw (a .lister, a .place) (whole-on room l s o at g e w h);
+  wrote = a .wrote;
+}
+
+pub wider : (at : ℕ) (p : List ℕ) (m k : ℕ) (out : List ℕ) (r : ℕ) (after : List ℕ) → length p ≤ k → Puts at p m out r after → Puts at p k out r after
+wider at p m k out r after h u = record { place = u .place; small = h; memory = u .memory; kept = u .kept }
+
+pub turned-cut : (l : Lister) (s : List ℕ) (at n : ℕ) (out : List ℕ) (g : Got) → g ≡ gotOf (l .reading) (drop at s) at → g .whole ≡ false
+    → Turned l s at n out (record { lister = withReading l (g .reading); at = g .at; put = n }) out
+turned-cut l s at n out g e w = record {
+  said = [];
+  behind = line-behind l s at g e;
+  ahead = λ h. line-ahead l s at g e h;
+  same = λ room o h. rw (append-nil o) (cut-on room l s o at g e w h);
+  wrote = wider n [] 0 most out n out (omega arith) (puts-nil n out);
+}
+
+-- ---- bytes that go on with the message held
+ran-step : (l : Lister) (e : Event) → runsBy l e ≡ true → stepped l e ≡ ranLister l e
+unfolding runsBy stepped ranLister
+ran-step l e h = rw (runs-on (l .link) (l .counts) e h)
+
+ran-silent : (l : Lister) (e : Event) → runsBy l e ≡ true → saidOf l e ≡ []
+unfolding runsBy saidOf answerText reportsText
+ran-silent l e h = rw (runs-on (l .link) (l .counts) e h)
+
+pub glided-start : (l : Lister) (s : List ℕ) (from : ℕ) → Glided l s from (record { lister = l; at = from })
+glided-start l s from = record { ahead = omega arith; same = λ room o h. refl }
+
+-- the line of such a byte is what its bytes give, and ends behind its place
+run-line : (x : Lister) (s : List ℕ) (at : ℕ) (q : Row) → isEmpty (x .reading) ≡ true → q ≡ rowOf s at → (q .to ≡ 0 → ⊥) → rowGot q ≡ gotOf (x .reading) (drop at s) at
+run-line x s at q e f t = rw f (sym (row-line s (x .reading) at e (λ z. t (ap (λ (k : Row). k .to) f ∙ z))))
+
+row-at : (q : Row) → rowGot q .at ≡ q .to
+unfolding rowGot
+row-at q = refl
+
+pub run-ahead : (x : Lister) (s : List ℕ) (at : ℕ) (q : Row) → isEmpty (x .reading) ≡ true → q ≡ rowOf s at → (q .to ≡ 0 → ⊥) → at < length s → at < q .to
+run-ahead x s at q e f t h = let k = line-ahead x s at (rowGot q) (run-line x s at q e f t) h in rw (row-at q) at k
+
+run-on : (room : ℕ) (x : Lister) (s o : List ℕ) (at : ℕ) (q : Row) → isEmpty (x .reading) ≡ true → q ≡ rowOf s at → (q .to ≡ 0 → ⊥) → runsBy x (q .event) ≡ true → length o ≤ room
+    → takes room (record { lister = x; said = o }) (drop at s) at ≡ takes room (record { lister = ranLister x (q .event); said = o }) (drop (q .to) s) (q .to)
+unfolding rowGot
+run-on room x s o at q e f t r h =
+    let w = whole-on room x s o at (rowGot q) (run-line x s at q e f t) refl h in
+    rw (ran-step x (q .event) r, ran-silent x (q .event) r, append-nil o) at w
+
+pub glided-on : (l : Lister) (s : List ℕ) (from : ℕ) (x : Lister) (at : ℕ) (q : Row) → isEmpty (x .reading) ≡ true → q ≡ rowOf s at → (q .to ≡ 0 → ⊥) → runsBy x (q .event) ≡ true
+    → at < length s → Glided l s from (record { lister = x; at = at }) → Glided l s from (record { lister = ranLister x (q .event); at = q .to })
+glided-on l s from x at q e f t r h g = record {
+  ahead = omega (arith, g .ahead, run-ahead x s at q e f t h);
+  same = λ room o k. g .same room o k ∙ run-on room x s o at q e f t r k;
+}
+
+pub ran-empty : (l : Lister) (e : Event) → isEmpty (ranLister l e .reading) ≡ true
+unfolding ranLister isEmpty isLetter
+ran-empty l e = refl
+
+pub turned-join : (l : Lister) (s : List ℕ) (at n : ℕ) (out : List ℕ) (y : Stretch) (r : Part) (after : List ℕ) → Glided l s at y → Turned (y .lister) s (y .at) n out r after
+    → Turned l s at n out r after
+turned-join l s at n out y r after g t = record {
+  said = t .said;
+  behind = omega (arith, g .ahead, t .behind);
+  ahead = λ h. ahead-both at (y .at) (r .at) (length s) (ltb (y .at) (length s)) refl h (g .ahead) (t .behind) (t .ahead);
+  same = λ room o h. g .same room o h ∙ t .same room o h;
+  wrote = t .wrote;
+}
+  where
+    ahead-both : (a b c len : ℕ) (p : Bool) → ltb b len ≡ p → a < len → a ≤ b → b ≤ c → (b < len → b < c) → a < c
+    ahead-both a b c len true e h k m f = omega (arith, f (ltb-true b len e))
+    ahead-both a b c len false e h k m f = omega (arith, ltb-false b len e)
+
+-- ---- the turns of a part
+pub record Going (l : Lister) (s out₀ : List ℕ) (room : ℕ) (x : Lister) (at n : ℕ) (out : List ℕ) : Type 0 where
+  pub w : List ℕ
+  pub same : takes room (record { lister = l; said = [] }) s 0 ≡ takes room (record { lister = x; said = w }) (drop at s) at
+  pub wrote : Puts 0 w (length out₀) out₀ n out
+
+pub going-start : (l : Lister) (s out : List ℕ) (room : ℕ) → Going l s out room l 0 0 out
+going-start l s out room = record { w = []; same = refl; wrote = wider 0 [] 0 (length out) out 0 out (omega arith) (puts-nil 0 out) }
+
+pub going-on : (l : Lister) (s out₀ : List ℕ) (room : ℕ) (x : Lister) (at n : ℕ) (out : List ℕ) (r : Part) (after : List ℕ) → room + 315 ≤ length out₀ → n ≤ room
+    → Going l s out₀ room x at n out → Turned x s at n out r after → Going l s out₀ room (r .lister) (r .at) (r .put) after
+going-on l s out₀ room x at n out r after h k g t =
+    let u = g .wrote in
+    let v = t .wrote in
+    let pl = u .place in
+    record {
+      w = g .w ++ t .said;
+      same = g .same ∙ t .same room (g .w) (omega arith);
+      wrote = wider 0 (g .w ++ t .said) (length (g .w) + 315) (length out₀) out₀ (r .put) after (rw (length-append (g .w) (t .said)) (omega (arith, v .small)))
+              (puts-join 0 (g .w) (t .said) (length (g .w)) 315 out₀ n out (r .put) after (omega arith) (wider 0 (g .w) (length out₀) (length (g .w)) out₀ n out (omega arith) u) v);
+    }
+
+done-by : (room : ℕ) (f : Feed) (s : List ℕ) (at : ℕ) (p : Bool) → ltb at (length s) ≡ p → (p && leb (length (f .said)) room) ≡ false
+    → takes room f (drop at s) at ≡ record { feed = f; at = at }
+unfolding takes
+done-by room f s at false e h = rw (drop-of-length-le s {i = at} (ltb-false at (length s) e))
+done-by room f s at true e h = rw (drop-cons s at 0 (ltb-true at (length s) e), h)
+
+takes-done : (room : ℕ) (f : Feed) (s : List ℕ) (at : ℕ) → (ltb at (length s) && leb (length (f .said)) room) ≡ false → takes room f (drop at s) at ≡ record { feed = f; at = at }
+takes-done room f s at h = done-by room f s at (ltb at (length s)) refl h
+
+parted-as : (l : Lister) (s out : List ℕ) (x : Lister) (w : List ℕ) (at n : ℕ) (after : List ℕ) → partOf l s (length out) ≡ record { feed = record { lister = x; said = w }; at = at }
+    → n ≡ length w → after ≡ put 0 w out → Parted l s out (record { lister = x; at = at; put = n }) after
+parted-as l s out x w at n after e f m = record { lister = rw e refl; read = rw e refl; written = rw e f; memory = rw e m }
+
+pub going-end : (l : Lister) (s out₀ : List ℕ) (room : ℕ) (x : Lister) (at n : ℕ) (out : List ℕ) → 315 ≤ length out₀ → room ≡ length out₀ - 315
+    → (ltb at (length s) && leb n room) ≡ false → Going l s out₀ room x at n out → Parted l s out₀ (record { lister = x; at = at; put = n }) out
+unfolding partOf
+going-end l s out₀ room x at n out h er t g =
+    let u = g .wrote in
+    let pl : n ≡ length (g .w) = u .place ∙ zero-add _ in
+    parted-as l s out₀ x (g .w) at n out
+    (rw (le-ltb (length out₀) most h, ← er) (g .same ∙ takes-done room (record { lister = x; said = g .w }) s at (rw pl at t)))
+    pl (u .memory)
+
+pub part-none : (l : Lister) (s out : List ℕ) → length out < 315 → Parted l s out (record { lister = l; at = 0; put = 0 }) out
+unfolding partOf
+part-none l s out h = parted-as l s out l [] 0 0 out (rw (lt-ltb (length out) most h)) refl (sym (put-nil 0 out))
+
+pub tests : (at len n room : ℕ) → (ltb at len && leb n room) ≡ true → (at < len) × (n ≤ room)
+tests at len n room t = let p = and-split (ltb at len) (leb n room) t in (ltb-true at len (p .0), leb-true n room (p .1))
+
+-- ---- an answer written
+pub answer-reports : (at : ℕ) (a : Answer) (out : List ℕ) (r : ℕ) (after : List ℕ) → a .no ≡ taken → at + 315 ≤ length out → Writes (reportsText (a .reports)) 315 at out r after
+    → Puts at (answerText a) 315 out r after
+unfolding answerText
+answer-reports at a out r after e h w = rw (eq-eqb (a .no) taken e) (writes-puts (reportsText (a .reports)) 315 at out r after h (reports-small (a .reports)) w)
+
+pub answer-refusal : (at : ℕ) (a : Answer) (out : List ℕ) (r : ℕ) (after : List ℕ) → (a .no ≡ taken → ⊥) → at + 315 ≤ length out → Writes (refusedText (a .no)) 29 at out r after
+    → Puts at (answerText a) 315 out r after
+unfolding answerText
+answer-refusal at a out r after e h w =
+    let k = refused-small (a .no) in
+    rw (ne-eqb (a .no) taken e) (wider at (refusedText (a .no)) 29 315 out r after (omega arith) (writes-puts (refusedText (a .no)) 29 at out r after (omega arith) k w))
+
+pub acted : (l : Lister) (e : Event) (at n : ℕ) (out : List ℕ) (t : Stepped) (rd : Reading) (m : ℕ) (after : List ℕ) → t ≡ stepOf (l .link) (l .counts) e → rd ≡ freshReading
+    → Puts n (answerText (t .answer)) 315 out m after
+    → Acted l e at n out (record { lister = record { link = t .answer .link; counts = t .counts; reading = rd }; at = at; put = m }) after
+unfolding stepped saidOf
+acted l e at n out t rd m after et er u = record { lister = rw (et, er) refl; place = refl; wrote = rw et at u }
+
+-- ---- the end
+pub ended-none : (l : Lister) (out : List ℕ) → isEmpty (l .reading) ≡ true → Ended l out (record { lister = l; at = 0; put = 0 }) out
+unfolding finished
+ended-none l out e = record { lister = rw e refl; wrote = rw e (wider 0 [] 0 315 out 0 out (omega arith) (puts-nil 0 out)) }
+
+pub ended-line : (l : Lister) (e : Event) (out : List ℕ) (r : Part) (after : List ℕ) → isEmpty (l .reading) ≡ false → e ≡ eventOf (l .reading) → Acted l e 0 0 out r after → Ended l out r after
+unfolding finished closed
+ended-line l e out r after f q a =
+    let a2 : Acted l (eventOf (l .reading)) 0 0 out r after = rw q at a in
+    record { lister = rw f (a2 .lister); wrote = rw f (a2 .wrote) }
+
+pub end-none : (p out : List ℕ) → length out < 487 → Writes p 487 0 out 0 out
+end-none p out h = record { place = rw (lt-leb 487 (length out) h) refl; memory = rw (lt-leb 487 (length out) h) refl }
+
+pub end-written : (l : Lister) (out : List ℕ) (p : Part) (o1 : List ℕ) (held r : ℕ) (after : List ℕ) → 487 ≤ length out → Ended l out p o1 → held ≡ heldOf (p .lister .link)
+    → Writes (endText (p .lister .counts) held) 172 (p .put) o1 r after → Writes (endingOf l) 487 0 out r after
+unfolding endingOf
+end-written l out p o1 held r after h d eh w =
+    let u = d .wrote in
+    let f = finished (record { lister = l; said = [] }) in
+    let pl : p .put ≡ length (f .said) = u .place ∙ zero-add _ in
+    let w2 : Writes (endText (f .lister .counts) (heldOf (f .lister .link))) 172 (p .put) o1 r after = rw (eh, d .lister) at w in
+    let v = writes-puts (endText (f .lister .counts) (heldOf (f .lister .link))) 172 (p .put) o1 r after (omega (arith, u .small, u .kept)) (end-small (f .lister .counts) (heldOf (f .lister .link))) w2 in
+    puts-writes _ 487 0 out r after (omega arith) (puts-join 0 (f .said) _ 315 172 out (p .put) o1 r after (omega arith) u v)

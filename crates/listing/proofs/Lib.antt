@@ -1,0 +1,2 @@
+-- The laws and theorems of the crate.
+pub mod Laws

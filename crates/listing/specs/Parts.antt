@@ -1,0 +1,37 @@
+-- A part of the input, listed into a lent buffer. Assumes nothing.
+use Prim.Native.Nat.{ℕ, _+_, _-_}
+use mathlib.Core.Path.{_≡_}
+use mathlib.Core.List.{List, [], _∷_}
+use lib.Dec.{leb, ltb}
+use lib.ListN.{length}
+use Rattle.base.specs.Choice.{if_then_else_}
+use Rattle.text.specs.Text.{put}
+use Rattle.listing.specs.Listing.{Feed, feedByte}
+use Rattle.listing.specs.declared.Lister.{Lister}
+use Rattle.listing.specs.declared.Part.{Part}
+
+-- the most that one byte has written: the line feed of a line with three reports
+abbrev pub most : ℕ
+most = 315
+
+-- how far a part is read
+pub record Taken : Type 0 where
+  pub feed : Feed
+  pub at : ℕ
+
+-- Bytes are read while no more than `room` are written; the next of them stands at `at`.
+unfoldable pub takes : ℕ → Feed → List ℕ → ℕ → Taken
+takes room f [] at = record { feed = f; at = at }
+takes room f (b ∷ bs) at = if leb (length (f .said)) room then takes room (feedByte f b) bs (at + 1) else record { feed = f; at = at }
+
+-- a part s, and a buffer of n bytes: while there is room for what one more byte may have written
+unfoldable pub partOf : Lister → List ℕ → ℕ → Taken
+partOf l s n =
+    if ltb n most then record { feed = record { lister = l; said = [] }; at = 0 } else takes (n - most) (record { lister = l; said = [] }) s 0
+
+-- what `list_part` promises: the lister, the bytes read and written, and all of the buffer
+pub record Parted (l : Lister) (s out : List ℕ) (r : Part) (after : List ℕ) : Type 0 where
+  pub lister : r .lister ≡ partOf l s (length out) .feed .lister
+  pub read : r .at ≡ partOf l s (length out) .at
+  pub written : r .put ≡ length (partOf l s (length out) .feed .said)
+  pub memory : after ≡ put 0 (partOf l s (length out) .feed .said) out
