@@ -1,2 +1,3 @@
 -- The laws and theorems of the crate.
 pub mod Laws
+pub mod Cuts
