@@ -3,3 +3,4 @@ pub mod Laws
 pub mod Parts
 pub mod Ways
 pub mod One
+pub mod Forms
