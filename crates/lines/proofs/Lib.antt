@@ -2,3 +2,5 @@
 pub mod Laws
 pub mod Parts
 pub mod Ways
+pub mod One
+pub mod Forms
