@@ -1,3 +1,4 @@
 -- The laws and theorems of the crate.
 pub mod Laws
 pub mod Cuts
+pub mod Sizes

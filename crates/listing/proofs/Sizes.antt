@@ -1,0 +1,85 @@
+-- How much is written at most. Assumes nothing.
+use Prim.Native.Nat.{ℕ, _+_, _-_, _≤_, _<_}
+use mathlib.Core.Path.{_≡_, refl, sym, _∙_, ap}
+use mathlib.Core.Bool.{Bool, true, false}
+use mathlib.Core.List.{List, [], _∷_, _++_}
+use lib.Dec.{eqb, leb, ltb}
+use lib.ListN.{length, length-append}
+use borrow.Author.Tests.{leb-true, ltb-false}
+use native.Mathlib.Omega.{arith}
+use Rattle.base.specs.Choice.{if_then_else_}
+use Rattle.base.specs.Numbers.{taken}
+use Rattle.base.proofs.Tests.{by-test}
+use Rattle.events.specs.declared.Event.{Event}
+use Rattle.link.specs.Stepping.{stepOf}
+use Rattle.link.specs.declared.Answer.{Answer}
+use Rattle.lines.specs.Lines.{isEmpty, eventOf}
+use Rattle.text.specs.Text.{refusedText, reportsText, endText, fits, put, Writes}
+use Rattle.text.proofs.Laws.{length-put, reports-small, refused-small, end-small}
+use Rattle.listing.specs.Listing.{Feed, answerText, saidOf, closed, feedByte, finished, heldOf, endingOf}
+use Rattle.listing.specs.Parts.{most, Taken, takes, partOf, Parted}
+use Rattle.listing.specs.declared.Lister.{Lister}
+use Rattle.listing.specs.declared.Part.{Part}
+
+answer-small : (a : Answer) → length (answerText a) ≤ most
+unfolding answerText
+answer-small a =
+    by-test (λ (p : List ℕ). length p ≤ most) (eqb (a .no) taken) (λ e. reports-small (a .reports)) (λ e. omega (arith, refused-small (a .no)))
+
+pub said-small : (l : Lister) (e : Event) → length (saidOf l e) ≤ most
+unfolding saidOf
+said-small l e = answer-small (stepOf (l .link) (l .counts) e .answer)
+
+closed-small : (f : Feed) → length (closed f .said) ≤ length (f .said) + most
+unfolding closed
+closed-small f = rw (length-append (f .said) (saidOf (f .lister) (eventOf (f .lister .reading)))) (omega (arith, said-small (f .lister) (eventOf (f .lister .reading))))
+
+byte-small : (f : Feed) (b : ℕ) → length (feedByte f b .said) ≤ length (f .said) + most
+unfolding feedByte
+byte-small f b = by-test (λ (g : Feed). length (g .said) ≤ length (f .said) + most) (eqb b 10) (λ e. closed-small f) (λ e. omega arith)
+
+-- a part never writes more than the buffer has
+takes-small : (room : ℕ) (bs : List ℕ) (f : Feed) (at : ℕ) → length (f .said) ≤ room + most → length (takes room f bs at .feed .said) ≤ room + most
+unfolding takes
+takes-small room [] f at h = h
+takes-small room (b ∷ bs) f at h =
+    by-test (λ (t : Taken). length (t .feed .said) ≤ room + most) (leb (length (f .said)) room)
+    (λ e. takes-small room bs (feedByte f b) (at + 1) (omega (arith, byte-small f b, leb-true (length (f .said)) room e))) (λ e. h)
+
+pub part-small : (l : Lister) (s : List ℕ) (n : ℕ) → length (partOf l s n .feed .said) ≤ n
+unfolding partOf
+part-small l s n =
+    by-test (λ (t : Taken). length (t .feed .said) ≤ n) (ltb n most) (λ e. omega arith)
+    (λ e. omega (arith, ltb-false n most e, takes-small (n - most) s (record { lister = l; said = [] }) 0 (omega arith)))
+
+-- what was written of a part stands in the buffer, which keeps its length
+pub part-kept : (l : Lister) (s out : List ℕ) (r : Part) (after : List ℕ) → Parted l s out r after → length after ≡ length out
+part-kept l s out r after p = rw (p .memory) (length-put 0 (partOf l s (length out) .feed .said) out (omega (arith, part-small l s (length out))))
+
+pub part-inside : (l : Lister) (s out : List ℕ) (r : Part) (after : List ℕ) → Parted l s out r after → r .put ≤ length after
+part-inside l s out r after p = rw (part-kept l s out r after p, p .written) (part-small l s (length out))
+
+-- the end writes 487 bytes at most
+finished-small : (l : Lister) → length (finished (record { lister = l; said = [] }) .said) ≤ most
+unfolding finished
+finished-small l =
+    by-test (λ (f : Feed). length (f .said) ≤ most) (isEmpty (l .reading)) (λ e. omega arith) (λ e. omega (arith, closed-small (record { lister = l; said = [] })))
+
+pub ending-small : (l : Lister) → length (endingOf l) ≤ 487
+unfolding endingOf
+ending-small l =
+    let f = finished (record { lister = l; said = [] }) in
+    rw (length-append (f .said) (endText (f .lister .counts) (heldOf (f .lister .link))))
+    (omega (arith, finished-small l, end-small (f .lister .counts) (heldOf (f .lister .link))))
+
+-- what was written at the front of a buffer lies in it
+inside-by : (p : List ℕ) (k : ℕ) (out : List ℕ) (r : ℕ) (after : List ℕ) (b : Bool) → leb (0 + k) (length out) ≡ b → length p ≤ k → Writes p k 0 out r after → r ≤ length after
+inside-by p k out r after true e h w =
+    let m : after ≡ put 0 p out = rw e at (w .memory) in
+    let q : r ≡ 0 + length p = rw e at (w .place) in
+    let n = leb-true (0 + k) (length out) e in
+    rw (m, length-put 0 p out (omega arith)) (omega arith)
+inside-by p k out r after false e h w = let q : r ≡ 0 = rw e at (w .place) in omega arith
+
+pub written-inside : (p : List ℕ) (k : ℕ) (out : List ℕ) (r : ℕ) (after : List ℕ) → length p ≤ k → Writes p k 0 out r after → r ≤ length after
+written-inside p k out r after h w = inside-by p k out r after (leb (0 + k) (length out)) refl h w
