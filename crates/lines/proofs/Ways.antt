@@ -42,8 +42,8 @@ Takes f = (n c b : ℕ) → isDigit b ≡ true → c < 13 → n < 1_000_000_000_
 
 digits-by : (f : ℕ → ℕ → Reading) → Takes f → (s : List ℕ) (k j n c : ℕ) (b : Bool) → isDigit (getD s j 0) ≡ b → c + suc k ≡ 13 → n < 10 ^ c → j + suc k ≤ length s
     → (isDigit (getD s j 0) ≡ true → gotOf (f (n * 10 + (getD s j 0 - 0x30)) (c + 1)) (drop (j + 1) s) (j + 1)
-      ≡ gotOf (f (digitsAt s k (j + 1) (n * 10 + (getD s j 0 - 0x30)) .value) (c + 1 + (digitsAt s k (j + 1) (n * 10 + (getD s j 0 - 0x30)) .to - (j + 1))))
-        (drop (digitsAt s k (j + 1) (n * 10 + (getD s j 0 - 0x30)) .to) s) (digitsAt s k (j + 1) (n * 10 + (getD s j 0 - 0x30)) .to))
+    ≡ gotOf (f (digitsAt s k (j + 1) (n * 10 + (getD s j 0 - 0x30)) .value) (c + 1 + (digitsAt s k (j + 1) (n * 10 + (getD s j 0 - 0x30)) .to - (j + 1))))
+    (drop (digitsAt s k (j + 1) (n * 10 + (getD s j 0 - 0x30)) .to) s) (digitsAt s k (j + 1) (n * 10 + (getD s j 0 - 0x30)) .to))
     → gotOf (f n c) (drop j s) j ≡ gotOf (f (digitsAt s (suc k) j n .value) (c + (digitsAt s (suc k) j n .to - j))) (drop (digitsAt s (suc k) j n .to) s) (digitsAt s (suc k) j n .to)
 unfolding digitsAt
 digits-by f t s k j n c true e z l h g =
@@ -53,7 +53,7 @@ digits-by f t s k j n c true e z l h g =
     rw e (got-byte (f n c) s j (omega arith) (λ x. omega (arith, d .0))
     ∙ (ap (λ (x : Reading). gotOf x (drop (j + 1) s) (j + 1)) (t n c (getD s j 0) e (omega arith) (low n c (omega arith) l))
     ∙ (g e ∙ ap (λ (x : ℕ). gotOf (f (digitsAt s k (j + 1) (n * 10 + (getD s j 0 - 0x30)) .value) x)
-      (drop (digitsAt s k (j + 1) (n * 10 + (getD s j 0 - 0x30)) .to) s) (digitsAt s k (j + 1) (n * 10 + (getD s j 0 - 0x30)) .to)) q)))
+    (drop (digitsAt s k (j + 1) (n * 10 + (getD s j 0 - 0x30)) .to) s) (digitsAt s k (j + 1) (n * 10 + (getD s j 0 - 0x30)) .to)) q)))
 digits-by f t s k j n c false e z l h g = let q : c + (j - j) ≡ c = omega arith in rw (e, q)
 
 digits-got : (f : ℕ → ℕ → Reading) → Takes f → (s : List ℕ) (k j n c : ℕ) → c + k ≡ 13 → n < 10 ^ c → j + k ≤ length s
@@ -63,7 +63,7 @@ digits-got f t s zero j n c z l h = let q : c + (j - j) ≡ c = omega arith in r
 digits-got f t s (suc k) j n c z l h =
     digits-by f t s k j n c (isDigit (getD s j 0)) refl z l h
     (λ e. digits-got f t s k (j + 1) (n * 10 + (getD s j 0 - 0x30)) (c + 1) (omega arith)
-      (next n c (getD s j 0 - 0x30) l (omega (arith, digit-within (getD s j 0) e))) (omega arith))
+    (next n c (getD s j 0 - 0x30) l (omega (arith, digit-within (getD s j 0) e))) (omega arith))
 
 -- ---- the words of a byte's line
 reads : Side → ℕ → ℕ → ℕ → ℕ → Place → Reading
@@ -215,7 +215,7 @@ module _ (s : List ℕ) where
       rw (ea, eb)
       (digits-got (λ n c. reads side value n 0 c Start) (takes-start side value) s 13 j 0 0 (omega arith) (omega arith) (omega arith)
       ∙ (read-on _ (reads side value (digitsAt s 13 j 0 .value) 0 0 End) (digitsAt s 13 j 0 .to) 0x20 (omega (arith, w .1)) (eqb-true _ _ eb) (λ x. omega arith)
-        (start-over side value _ _ (some (w .0) n))
+      (start-over side value _ _ (some (w .0) n))
       ∙ second-got _ _ side value (omega (arith, w .1)) t2))
 
   times-got : (j : ℕ) (side : Side) (value : ℕ) → j + 28 ≤ length s → (timesAt s j side value .to ≡ 0 → ⊥)

@@ -13,7 +13,7 @@ returns c =
     c .got-row .ensures
     ∙ (ap rowGot q
     ∙ sym (row-line _ _ _ (sym (c .before .before .before .before .before .is-empty .ensures) ∙ c .before .before .before .before .if1 .taken)
-      (λ z. c .before .if2 .taken (ap (λ (x : Row). x .to) q ∙ z))))
+    (λ z. c .before .if2 .taken (ap (λ (x : Row). x .to) q ∙ z))))
 
 pub get-line-spec : {M : Type 1} → statement M
 get-line-spec =

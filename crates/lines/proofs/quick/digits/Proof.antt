@@ -26,11 +26,12 @@ room c = let l = c .before .before .before .before .before .loop in below _ _ (c
 again : tie.Need-loop-again Inv-loop μ-loop
 again c =
     let l = c .before .before .before .before .before .loop in
-    let t = c .before .before .before .before .loop-test .taken in
-    (omega (arith, l .inv .0),
-    omega arith,
-    more (l .n) (l .v) _ t (l .inv .1) (l .inv .2) (c .if1 .left),
-    rw (is-digit c .1) (sym (digits-on _ (l .n) (l .i) (l .v) t (is-digit c .0))) ∙ l .inv .3)
+    let t = c .before .before .before .before .loop-test .taken in (
+      omega (arith, l .inv .0),
+      omega arith,
+      more (l .n) (l .v) _ t (l .inv .1) (l .inv .2) (c .if1 .left),
+      rw (is-digit c .1) (sym (digits-on _ (l .n) (l .i) (l .v) t (is-digit c .0))) ∙ l .inv .3,
+    )
 
 loop-holds : tie.Need-loop-holds Inv-loop μ-loop
 loop-holds c = (refl, omega arith, omega arith, refl)
