@@ -3,7 +3,10 @@
 
 Each session starts fast or slow, sets new timing, loads blocks of data, reads some values, and stops; a tick comes now and then, and now and
 then a byte is lost. Three numbers of 64 bits an event, lowest byte first: value, side and kind (by their letters) in the lowest bytes of the
-first, then start and end. Use: bench/events.py N > FILE (about N events, and the digest of their reports on standard error)
+first, then start and end; or, with the word text, a line an event as the listing program reads them. The events are written as they are made
+up, so that no number of them takes more memory.
+
+Use: bench/events.py N [text] > FILE (N events and the rest of their session, and the digest of their reports on standard error)
 """
 
 import os
@@ -12,19 +15,32 @@ import sys
 
 sys.path.insert(0, os.path.join(os.path.dirname(os.path.abspath(__file__)), "..", "tests"))
 from link_reference import Dice, Link  # noqa: E402
+from make_lists import line  # noqa: E402
+
+
+def numbers(event):
+    kind, side, value, start, end = event
+    return struct.pack("<QQQ", value | (ord(side) if side else 0) << 8 | ord(kind) << 16, start, end)
+
+
+def text(event):
+    return line(event) + b"\n"
 
 
 class Workshop:
-    def __init__(self):
-        self.dice, self.link, self.out, self.digest = Dice(14230), Link(), [], 0
+    def __init__(self, write, form):
+        self.write, self.form = write, form
+        self.dice, self.link, self.events, self.digest = Dice(14230), Link(), 0, 0
 
     def send(self, kind, side, value, start, end):
-        no, reports = self.link.event(kind, side, value, start, end)
+        event = (kind, side, value, start, end)
+        no, reports = self.link.event(*event)
         assert no == 0
         for number, reason, first, n, time in reports:
             for x in (number, reason, first, n, time):
                 self.digest = (self.digest * 31 + x) % 2**32
-        self.out.append(struct.pack("<QQQ", value | (ord(side) if side else 0) << 8 | ord(kind) << 16, start, end))
+        self.write(self.form(event))
+        self.events += 1
 
     def byte(self, side, value, gap, since=None):
         start = max((self.link.mark if since is None else since) + gap, self.link.clock)
@@ -79,14 +95,13 @@ class Workshop:
             self.send("D", "", 0, self.link.clock, self.link.clock)
 
     def run(self, n):
-        while len(self.out) < n:
+        while self.events < n:
             self.session()
         return self
 
 
 if __name__ == "__main__":
-    if len(sys.argv) != 2 or not sys.argv[1].isdigit():
+    if len(sys.argv) not in (2, 3) or not sys.argv[1].isdigit() or sys.argv[2:] not in ([], ["text"]):
         sys.exit(__doc__)
-    w = Workshop().run(int(sys.argv[1]))
-    sys.stdout.buffer.write(b"".join(w.out))
-    print(f"{len(w.out)} events, digest {w.digest}", file=sys.stderr)
+    w = Workshop(sys.stdout.buffer.write, text if sys.argv[2:] else numbers).run(int(sys.argv[1]))
+    print(f"{w.events} events, digest {w.digest}", file=sys.stderr)

@@ -221,8 +221,9 @@ struct start {
 };
 
 enum reply { NO_REPLY_DUE, FIRST_DUE, FURTHER_DUE };
-enum holding { NOTHING, MESSAGE, SKIPPING };
-enum place { AT_TARGET, AT_SOURCE, AT_LENGTH, AT_DATA, AT_SUM };
+
+/* Where in a message the next byte stands; behind a byte that is wrong, all are skipped. */
+enum place { AT_FORMAT, AT_TARGET, AT_SOURCE, AT_LENGTH, AT_DATA, AT_SUM, SKIPPING };
 
 /* A frame's data as far as the link looks at it: 83 03 and five codes are the longest. */
 struct data {
@@ -232,10 +233,8 @@ struct data {
 
 struct message {
     char side;
-    bool long_form;   /* has an extra length byte */
     uint8_t sum;
-    enum place place;
-    unsigned length;  /* data bytes announced */
+    unsigned length;  /* data bytes announced; 0 before an extra length byte */
     struct data data; /* data bytes so far */
 };
 
@@ -245,9 +244,8 @@ struct counts {
 
 struct link {
     enum phase phase;
-    uint64_t clock;  /* end of the last event taken */
+    uint64_t clock;  /* end of the last event taken, or of the one being taken */
     uint64_t mark;   /* end of the last A, W or B taken */
-    uint64_t now;    /* end of the event being taken */
     uint64_t events; /* taken so far */
     uint64_t named;  /* bytes that reports have named */
     struct counts counts;
@@ -255,7 +253,7 @@ struct link {
     struct start start;
     struct timing timing;
     enum reply reply;
-    enum holding holding;
+    enum place place;
     int reason;      /* of the damage being skipped */
     struct message message;
     struct data request; /* latest tester frame; length 0 if there is none, or it has had its effect */
@@ -302,7 +300,7 @@ static void report(struct link *link, enum report number, int reason, uint64_t b
     put_text(" ");
     put_number(bytes);
     put_text(" ");
-    put_number(link->now);
+    put_number(link->clock);
     put_text("\n");
     link->named += bytes;
     count_report(&link->counts, number, bytes);
@@ -320,8 +318,8 @@ static void go_down(struct link *link, enum report number, int reason)
 /* The held message or the damage is over. */
 static void close_held(struct link *link, int message_reason)
 {
-    report(link, DAMAGE, link->holding == MESSAGE ? message_reason : link->reason, held(link));
-    link->holding = NOTHING;
+    report(link, DAMAGE, link->place == SKIPPING ? link->reason : message_reason, held(link));
+    link->place = AT_FORMAT;
     link->reply = NO_REPLY_DUE;
 }
 
@@ -332,8 +330,8 @@ static void pass_time(struct link *link, uint64_t time)
     if (link->phase == STARTING) {
         if (time > link->start.latest)
             go_down(link, FAILED, INIT_LATE);
-    } else if (link->phase == CONNECTED) {
-        if (link->holding != NOTHING && gap > MESSAGE_GAP)
+    } else if (link->phase == CONNECTED && gap > MESSAGE_GAP) { /* every P2 max and P3 max is longer */
+        if (link->place != AT_FORMAT)
             close_held(link, BROKEN_OFF);
         if (link->reply == FIRST_DUE && gap > link->timing.p2_max) {
             report(link, NO_REPLY, 0, 0);
@@ -350,7 +348,7 @@ static void close_all(struct link *link, int down_reason)
     if (link->phase == STARTING) {
         go_down(link, FAILED, INIT_CUT);
     } else if (link->phase == CONNECTED) {
-        if (link->holding != NOTHING)
+        if (link->place != AT_FORMAT)
             close_held(link, CUT);
         go_down(link, LINK_DOWN, down_reason);
     }
@@ -460,7 +458,7 @@ static void connect(struct link *link)
     link->phase = CONNECTED;
     link->timing = timing_of_keys(link->kb1);
     link->reply = NO_REPLY_DUE;
-    link->holding = NOTHING;
+    link->place = AT_FORMAT;
     link->request.length = 0;
 }
 
@@ -509,60 +507,6 @@ static int first_byte_fault(const struct link *link, const struct event *event)
     return 0;
 }
 
-static void begin_message(struct message *message, char side, uint8_t format)
-{
-    message->side = side;
-    message->sum = format;
-    message->length = format & 0x3F;
-    message->long_form = message->length == 0;
-    message->data.length = 0;
-    message->place = format & 0x80 ? AT_TARGET : message->long_form ? AT_LENGTH : AT_DATA;
-}
-
-/* What is wrong with a later byte of a message, 0 if nothing is. */
-static int later_byte_fault(const struct message *message, const struct event *event)
-{
-    if (event->side != message->side)
-        return OTHER_SIDE;
-    if (message->place == AT_LENGTH && event->value == 0)
-        return LENGTH;
-    if (message->place == AT_SUM && event->value != message->sum)
-        return CHECKSUM;
-    return 0;
-}
-
-static void add_data(struct data *data, uint8_t value)
-{
-    if (data->length < sizeof data->byte)
-        data->byte[data->length] = value;
-    data->length++;
-}
-
-/* Takes a good later byte before the checksum. */
-static void grow_message(struct message *message, uint8_t value)
-{
-    message->sum += value;
-    switch (message->place) {
-    case AT_TARGET:
-        message->place = AT_SOURCE;
-        break;
-    case AT_SOURCE:
-        message->place = message->long_form ? AT_LENGTH : AT_DATA;
-        break;
-    case AT_LENGTH:
-        message->length = value;
-        message->place = AT_DATA;
-        break;
-    case AT_DATA:
-        add_data(&message->data, value);
-        if (message->data.length == message->length)
-            message->place = AT_SUM;
-        break;
-    case AT_SUM:
-        break;
-    }
-}
-
 static bool is_exactly(const struct data *data, unsigned length, uint8_t first, uint8_t second)
 {
     return data->length == length && data->byte[0] == first && data->byte[1] == second;
@@ -591,7 +535,7 @@ static void end_message(struct link *link)
     struct message *message = &link->message;
 
     report(link, FRAME, 0, held(link));
-    link->holding = NOTHING;
+    link->place = AT_FORMAT;
     if (message->side == 't') {
         link->reply = FIRST_DUE;
         link->request = message->data;
@@ -603,37 +547,69 @@ static void end_message(struct link *link)
 
 static void skip(struct link *link, int reason)
 {
-    link->holding = SKIPPING;
+    link->place = SKIPPING;
     link->reason = reason;
+}
+
+static void first_byte(struct link *link, const struct event *event)
+{
+    struct message *message = &link->message;
+    int fault = first_byte_fault(link, event);
+
+    if (fault) {
+        skip(link, fault);
+        return;
+    }
+    message->side = event->side;
+    message->sum = event->value;
+    message->length = event->value & 0x3F;
+    message->data.length = 0;
+    link->place = event->value & 0x80 ? AT_TARGET : message->length == 0 ? AT_LENGTH : AT_DATA;
+}
+
+static void data_byte(struct link *link, uint8_t value)
+{
+    struct data *data = &link->message.data;
+
+    if (data->length < sizeof data->byte)
+        data->byte[data->length] = value;
+    data->length++;
+    if (data->length == link->message.length)
+        link->place = AT_SUM;
+}
+
+static void later_byte(struct link *link, const struct event *event)
+{
+    struct message *message = &link->message;
+    uint8_t sum = message->sum; /* of the bytes before this one */
+
+    message->sum += event->value;
+    if (event->side != message->side) {
+        skip(link, OTHER_SIDE);
+    } else if (link->place == AT_DATA) {
+        data_byte(link, event->value);
+    } else if (link->place == AT_TARGET) {
+        link->place = AT_SOURCE;
+    } else if (link->place == AT_SOURCE) {
+        link->place = message->length == 0 ? AT_LENGTH : AT_DATA;
+    } else if (link->place == AT_LENGTH) {
+        message->length = event->value;
+        link->place = AT_DATA;
+        if (event->value == 0)
+            skip(link, LENGTH);
+    } else if (event->value == sum) {
+        end_message(link);
+    } else {
+        skip(link, CHECKSUM);
+    }
 }
 
 static void connected_byte(struct link *link, const struct event *event)
 {
-    struct message *message = &link->message;
-    int fault;
-
-    switch (link->holding) {
-    case NOTHING:
-        fault = first_byte_fault(link, event);
-        if (fault) {
-            skip(link, fault);
-        } else {
-            link->holding = MESSAGE;
-            begin_message(message, event->side, event->value);
-        }
-        break;
-    case MESSAGE:
-        fault = later_byte_fault(message, event);
-        if (fault)
-            skip(link, fault);
-        else if (message->place == AT_SUM)
-            end_message(link);
-        else
-            grow_message(message, event->value);
-        break;
-    case SKIPPING:
-        break;
-    }
+    if (link->place == AT_FORMAT)
+        first_byte(link, event);
+    else if (link->place != SKIPPING)
+        later_byte(link, event);
 }
 
 /* ---- Events ---- */
@@ -664,152 +640,125 @@ static enum refusal take(struct link *link, const struct event *event)
         return TOO_MANY;
 
     link->events++;
-    link->now = event->end;
-    pass_time(link, event->start);
-    switch (event->kind) {
-    case 'A':
-        take_address(link, event);
-        break;
-    case 'W':
-        take_wake_up(link, event);
-        break;
-    case 'B':
-        take_byte(link, event);
-        break;
-    case 'D':
-        close_all(link, DROPPED);
-        break;
-    }
     link->clock = event->end;
-    if (event->kind == 'A' || event->kind == 'W' || event->kind == 'B')
+    pass_time(link, event->start);
+    if (event->kind == 'B')
+        take_byte(link, event);
+    else if (event->kind == 'A')
+        take_address(link, event);
+    else if (event->kind == 'W')
+        take_wake_up(link, event);
+    else if (event->kind == 'D')
+        close_all(link, DROPPED);
+    if (event->kind != 'T' && event->kind != 'D')
         link->mark = event->end;
     return TAKEN;
 }
 
 /* ---- Lines ---- */
 
-/* The longest readable line: B t 81 and two times of 13 digits */
-#define LONGEST_LINE (6 + 14 + 14)
+/*
+ * A reader looks at a line from p on, and says whether what it wants is there: read_time and read_event by the place
+ * behind it, or NULL. None looks behind a byte that it does not want, so the line feed keeps all of them in the line.
+ */
 
-struct text {
-    const unsigned char *at, *end;
-};
-
-static bool read_space(struct text *text)
+static int hex_digit(unsigned char c)
 {
-    return text->at < text->end && *text->at++ == ' ';
-}
-
-static bool read_side(struct text *text, char *side)
-{
-    if (text->at == text->end || (*text->at != 't' && *text->at != 'e'))
-        return false;
-    *side = (char)*text->at++;
-    return true;
-}
-
-static bool read_hex_digit(struct text *text, uint8_t *value)
-{
-    unsigned char c;
-
-    if (text->at == text->end)
-        return false;
-    c = *text->at++;
     if (c >= '0' && c <= '9')
-        *value = (uint8_t)(*value << 4 | (c - '0'));
-    else if (c >= 'A' && c <= 'F')
-        *value = (uint8_t)(*value << 4 | (c - 'A' + 10));
-    else
-        return false;
-    return true;
+        return c - '0';
+    if (c >= 'A' && c <= 'F')
+        return c - 'A' + 10;
+    return -1;
 }
 
-static bool read_value(struct text *text, uint8_t *value)
+static bool read_value(const unsigned char *p, uint8_t *value)
 {
-    *value = 0;
-    return read_hex_digit(text, value) && read_hex_digit(text, value);
+    int high, low;
+
+    if ((high = hex_digit(p[0])) < 0 || (low = hex_digit(p[1])) < 0)
+        return false;
+    *value = (uint8_t)(high << 4 | low);
+    return true;
 }
 
 /* 1 to 13 digits; a 14th is left standing, where no line can go on with it. */
-static bool read_time(struct text *text, uint64_t *time)
+static const unsigned char *read_time(const unsigned char *p, uint64_t *time)
 {
-    const unsigned char *at = text->at;
-    const unsigned char *end = text->end - at > 13 ? at + 13 : text->end;
     uint64_t number = 0;
+    int n;
 
-    while (at < end) {
-        unsigned digit = *at - (unsigned)'0';
+#pragma GCC unroll 13 /* most of the program's time is spent here */
+    for (n = 0; n < 13; n++) {
+        unsigned digit = p[n] - (unsigned)'0';
 
         if (digit > 9)
             break;
         number = number * 10 + digit;
-        at++;
     }
-    if (at == text->at)
-        return false;
-    text->at = at;
     *time = number;
-    return true;
+    return n > 0 ? p + n : NULL;
 }
 
-static bool read_times(struct text *text, struct event *event)
+static const unsigned char *read_event(const unsigned char *p, struct event *event)
 {
-    return read_time(text, &event->start) && read_space(text) && read_time(text, &event->end);
-}
-
-static bool read_event(struct text *text, struct event *event)
-{
-    if (text->at == text->end)
-        return false;
-    event->kind = (char)*text->at++;
-    if (!read_space(text))
-        return false;
-    switch (event->kind) {
-    case 'A':
-        if (!read_value(text, &event->value) || !read_space(text) || !read_times(text, event))
-            return false;
-        break;
-    case 'W':
-        if (!read_times(text, event))
-            return false;
-        break;
-    case 'B':
-        if (!read_side(text, &event->side) || !read_space(text) || !read_value(text, &event->value) ||
-            !read_space(text) || !read_times(text, event))
-            return false;
-        break;
-    case 'T':
-    case 'D':
-        if (!read_time(text, &event->start))
-            return false;
-        event->end = event->start;
-        break;
-    default:
-        return false;
+    event->kind = (char)*p++;
+    event->side = 0;
+    event->value = 0;
+    if (event->kind == 'B') {
+        if (p[0] != ' ' || (p[1] != 't' && p[1] != 'e'))
+            return NULL;
+        event->side = (char)p[1];
+        p += 2;
     }
-    return text->at == text->end;
+    if (event->kind == 'A' || event->kind == 'B') {
+        if (p[0] != ' ' || !read_value(p + 1, &event->value))
+            return NULL;
+        p += 3;
+    } else if (event->kind != 'W' && event->kind != 'T' && event->kind != 'D') {
+        return NULL;
+    }
+    if (*p != ' ' || (p = read_time(p + 1, &event->start)) == NULL)
+        return NULL;
+    if (event->kind == 'T' || event->kind == 'D') {
+        event->end = event->start;
+        return p;
+    }
+    return *p == ' ' ? read_time(p + 1, &event->end) : NULL;
 }
 
-static void list_line(struct link *link, const unsigned char *line, size_t length, bool too_long)
+static void refuse(enum refusal number)
 {
-    struct text text = { line, line + length };
-    struct event event;
-    enum refusal refusal = UNREADABLE;
-
-    if (!too_long && read_event(&text, &event))
-        refusal = take(link, &event);
-    if (refusal == TAKEN)
-        return;
     begin_line();
     put_text("refused ");
-    put_number(refusal);
+    put_number(number);
     put_text("\n");
 #ifdef TALLY
-    seen_refusal[refusal]++;
+    seen_refusal[number]++;
 #endif
 }
 
+/* Lists the lines from at to end, each with its line feed. */
+static void list_whole_lines(struct link *link, const unsigned char *at, const unsigned char *end)
+{
+    while (at < end) {
+        struct event event;
+        const unsigned char *behind = read_event(at, &event);
+        enum refusal refusal = UNREADABLE;
+
+        if (behind != NULL && *behind == '\n')
+            refusal = take(link, &event);
+        else
+            behind = memchr(at, '\n', (size_t)(end - at));
+        if (refusal != TAKEN)
+            refuse(refusal);
+        at = behind + 1;
+    }
+}
+
 /* ---- The listing ---- */
+
+/* The longest readable line: B t 81 and two times of 13 digits */
+#define LONGEST_LINE (6 + 14 + 14)
 
 static unsigned char in[65536];
 
@@ -834,22 +783,29 @@ static void list_lines(struct link *link, int file)
     while ((got = read_some(file, kept)) > 0) {
         const unsigned char *at = in;
         const unsigned char *end = in + kept + got;
-        const unsigned char *feed;
+        const unsigned char *whole = end; /* behind the last line feed */
 
-        while ((feed = memchr(at, '\n', (size_t)(end - at))) != NULL) {
-            list_line(link, at, (size_t)(feed - at), too_long);
+        while (whole > in && whole[-1] != '\n')
+            whole--;
+        if (too_long && whole > in) {
+            refuse(UNREADABLE);
             too_long = false;
-            at = feed + 1;
+            at = (const unsigned char *)memchr(in, '\n', sizeof in) + 1;
         }
-        kept = (size_t)(end - at);
+        list_whole_lines(link, at, whole);
+        kept = (size_t)(end - whole);
         if (kept > LONGEST_LINE) {
             too_long = true;
             kept = 0;
         }
-        memmove(in, at, kept);
+        memmove(in, whole, kept);
     }
-    if (kept > 0 || too_long)
-        list_line(link, in, kept, too_long);
+    if (too_long) {
+        refuse(UNREADABLE);
+    } else if (kept > 0) {
+        in[kept++] = '\n';
+        list_whole_lines(link, in, in + kept);
+    }
 }
 
 static void put_end(const struct link *link)
