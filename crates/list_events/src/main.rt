@@ -1,43 +1,138 @@
-// The listing program.
+// The listing program: events from standard input, or from the file that its one argument names; the
+// listing to standard output. It reads 64 KiB at a time and keeps nothing but the lister.
+ghost use Prim.Native.Nat.{_≤_};
+ghost use lib.ListN.{length};
+ghost use Rattle.list_events.specs.Reading.{Listed};
+use libc::STDERR_FILENO;
 use libc::STDIN_FILENO;
 use libc::STDOUT_FILENO;
-use listing::Listing;
+use listing::Lister;
 
-// Lists the bytes of a part.
-fn drain(l: Listing, s: &[u8], out: &mut [u8]) -> Listing {
+// The lister after a part, and whether all that it wrote went out.
+struct Sent {
+    lister: Lister,
+    whole: bool,
+}
+
+// Says on standard error what failed.
+fn complain(what: &[u8]) {
+    io::write_all(STDERR_FILENO, b"list_events: ");
+    os::fail(what);
+}
+
+// Writes to standard output, and answers whether all went out.
+fn send(text: &[u8]) -> bool {
+    let is_sent = io::write_all(STDOUT_FILENO, text);
+    if !is_sent {
+        complain(b"standard output");
+    }
+    is_sent
+}
+
+// Lists a part of the input, one buffer after another.
+fn list(l: Lister, s: &[u8], out: &mut [u8]) -> Sent
+    requires { ⌜ 315 ≤ length (now out) ⌝ }
+    ensures { λ r. ⌜ Listed l (now (s .entry)) r ⌝ }
+{
     let mut x = l;
     let mut at = 0;
     while at < s.len() {
-        let r = listing::part(x, &s[at..], out);
-        let n = r.put;
-        let done = r.at;
-        io::write_all(STDOUT_FILENO, &out[..n]);
-        x = r.listing;
-        if done == 0 {
-            return x;
+        let p = listing::list_part(x, &s[at..], out);
+        let n = p.put;
+        x = p.lister;
+        let is_sent = send(&out[..n]);
+        if !is_sent {
+            return Sent {
+                lister: x,
+                whole: false,
+            };
         }
-        at = at + done;
+        at = at + p.at;
     }
-    x
+    Sent {
+        lister: x,
+        whole: true,
+    }
 }
 
-fn run(fd: i32, buf: &mut [u8], out: &mut [u8]) {
+// The input has ended.
+fn finish(l: Lister, out: &mut [u8]) {
+    let n = listing::finish(l, out);
+    send(&out[..n]);
+}
+
+// Lists the input from a first read on, which gave `first`.
+fn list_all(fd: i32, first: isize, buf: &mut [u8], out: &mut [u8])
+    requires { ⌜ 315 ≤ length (now out) ⌝ }
+{
     let mut l = listing::begin();
+    let mut got = first;
     let mut turns = u64::MAX;
     while 0 < turns {
-        let got = libc::read(fd, buf);
         let n = io::count(got, buf);
         if n == 0 {
+            finish(l, out);
             return;
         }
-        l = drain(l, &buf[..n], out);
+        let r = list(l, &buf[..n], out);
+        let whole = r.whole;
+        if !whole {
+            return;
+        }
+        l = r.lister;
+        got = libc::read(fd, buf);
+        if got < 0 {
+            complain(b"the input");
+            return;
+        }
         turns -= 1;
     }
 }
 
+// Lists an input that is open. Where not even a first read is possible there is no listing.
+fn list_open(fd: i32, buf: &mut [u8], out: &mut [u8])
+    requires { ⌜ 315 ≤ length (now out) ⌝ }
+{
+    let first = libc::read(fd, buf);
+    if first < 0 {
+        complain(b"the input");
+        return;
+    }
+    let n = text::put_head(out, 0);
+    let is_sent = send(&out[..n]);
+    if is_sent {
+        list_all(fd, first, buf, out);
+    }
+}
+
+// The file that the one argument names.
+fn open_named() -> i32 {
+    let mut path = io::buffer();
+    let n = os::arg(1, &mut path);
+    if os::errno() != 0 {
+        complain(b"the file's name");
+        return -1;
+    }
+    let fd = os::open_read(&path[..n]);
+    if fd < 0 {
+        complain(&path[..n]);
+    }
+    fd
+}
+
 fn main() {
-    io::write_all(STDOUT_FILENO, b"report reason first bytes time\n");
+    let mut fd = STDIN_FILENO;
+    if 2 < os::arg_count() {
+        io::write_all(STDERR_FILENO, b"usage: list_events [FILE]\n");
+        return;
+    }
+    if os::arg_count() == 2 {
+        fd = open_named();
+    }
+    if fd < 0 {
+        return;
+    }
     let mut buf = io::large_buffer();
     let mut out = io::large_buffer();
-    run(STDIN_FILENO, &mut buf, &mut out);
+    list_open(fd, &mut buf, &mut out);
 }
