@@ -8,7 +8,7 @@ use Rattle.base.proofs.One.{Only, only}
 use Rattle.events.specs.declared.Event.{Event}
 use Rattle.lines.specs.Lines.{freshReading, readByte, isEmpty, eventOf}
 use Rattle.lines.specs.Getting.{gotOf}
-use Rattle.lines.specs.Quick.{rowOf}
+use Rattle.lines.specs.Quick.{noRow, rowOf, rowGot}
 use Rattle.lines.specs.declared.Reading.{Reading}
 use Rattle.lines.specs.declared.Got.{Got}
 use Rattle.lines.specs.declared.Row.{Row}
@@ -30,3 +30,9 @@ get-line r s at = only (gotOf r (drop at s) at)
 
 pub byte-line : (s : List ℕ) (at : ℕ) → Only (λ (x : Row). x ≡ rowOf s at)
 byte-line s at = only (rowOf s at)
+
+pub got-row : (q : Row) → Only (λ (x : Got). x ≡ rowGot q)
+got-row q = only (rowGot q)
+
+pub no-row : Only (λ (x : Row). x ≡ noRow)
+no-row = only noRow

@@ -8,10 +8,8 @@ use crate::Reading;
 use crate::Row;
 use crate::bytewise::begin;
 use crate::bytewise::event_of;
-use crate::bytewise::is_empty;
 use crate::bytewise::no_event;
 use crate::bytewise::read_byte;
-use crate::quick::byte_line;
 
 // The byte that ends a line.
 const LINE_FEED: u8 = 10;
@@ -40,8 +38,8 @@ fn cut_off(r: Reading, at: usize) -> Got
     }
 }
 
-// The rest of a line, byte by byte.
-fn go_on(r: Reading, s: &[u8], at: usize) -> Got
+// The rest of a line, from a place of a part on: up to its line feed, or to the part's end.
+pub fn get_line(r: Reading, s: &[u8], at: usize) -> Got
     ensures { λ x. ⌜ x ≡ gotOf r (drop at (now (s .entry))) at ⌝ }
 {
     let mut x = r;
@@ -57,8 +55,8 @@ fn go_on(r: Reading, s: &[u8], at: usize) -> Got
     cut_off(x, i)
 }
 
-// A byte's line that was read at once.
-fn got_row(q: Row) -> Got
+// What a byte's line that was read at once gives.
+pub fn got_row(q: Row) -> Got
     ensures { λ x. ⌜ x ≡ rowGot q ⌝ }
 {
     let e = q.event;
@@ -68,17 +66,4 @@ fn got_row(q: Row) -> Got
         at: q.to,
         whole: true,
     }
-}
-
-// The rest of a line, from a place of a part on: up to its line feed, or to the part's end.
-pub fn get_line(r: Reading, s: &[u8], at: usize) -> Got
-    ensures { λ x. ⌜ x ≡ gotOf r (drop at (now (s .entry))) at ⌝ }
-{
-    if is_empty(r) {
-        let q = byte_line(s, at);
-        if q.to != 0 {
-            return got_row(q);
-        }
-    }
-    go_on(r, s, at)
 }

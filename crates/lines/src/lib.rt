@@ -11,7 +11,9 @@ use events::Event;
 use events::Kind;
 use events::Side;
 pub use getting::get_line;
+pub use getting::got_row;
 pub use quick::byte_line;
+pub use quick::no_row;
 
 // What the next byte of a line is to be. A tick and a drop have one time, the others two. Nowhere:
 // the line can't be read, whatever follows.

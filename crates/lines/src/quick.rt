@@ -19,7 +19,7 @@ struct Span {
 }
 
 // No line.
-fn no_row() -> Row
+pub fn no_row() -> Row
     ensures { λ r. ⌜ r ≡ noRow ⌝ }
 {
     Row {

@@ -11,26 +11,28 @@ use native.Mathlib.Omega.{arith}
 use native.Mathlib.Nat.{zero-add}
 use Rattle.base.specs.Choice.{if_then_else_}
 use Rattle.base.specs.Numbers.{taken}
-use Rattle.base.proofs.Tests.{and-split}
+use Rattle.base.proofs.Tests.{and-split, by-test}
 use Rattle.events.specs.declared.Event.{Event}
-use Rattle.reports.specs.Reporting.{noReports}
+use Rattle.reports.specs.Counting.{countedByte, countedAll, countedEvent}
+use Rattle.reports.specs.declared.Counts.{Counts}
 use Rattle.link.specs.Stepping.{stepOf}
-use Rattle.link.specs.Running.{runsOn}
+use Rattle.link.specs.Running.{runsOn, ranOn}
+use Rattle.link.specs.declared.Link.{Link}
 use Rattle.link.specs.declared.Answer.{Answer}
 use Rattle.link.specs.declared.Stepped.{Stepped}
 use Rattle.link.proofs.Ways.{runs-on}
 use Rattle.lines.specs.Lines.{freshReading, readByte, isLetter, isEmpty, eventOf}
 use Rattle.lines.specs.Getting.{gotOf, ended, cutOff}
-use Rattle.lines.specs.Quick.{rowOf, rowGot}
+use Rattle.lines.specs.Quick.{noRow, rowOf, rowGot}
 use Rattle.lines.specs.declared.Reading.{Reading}
 use Rattle.lines.specs.declared.Got.{Got}
 use Rattle.lines.specs.declared.Row.{Row}
 use Rattle.lines.proofs.Ways.{row-line}
 use Rattle.text.specs.Text.{reportsText, refusedText, endText, put, Puts, Writes}
 use Rattle.text.proofs.Laws.{puts-join, puts-nil, put-nil, puts-writes, writes-puts, reports-small, refused-small, end-small}
-use Rattle.listing.specs.Listing.{Feed, answerText, stepped, saidOf, closed, withReading, feedByte, finished, heldOf, endingOf, runsBy, ranLister}
+use Rattle.listing.specs.Listing.{Feed, answerText, stepped, saidOf, closed, withReading, feedByte, finished, heldOf, endingOf}
 use Rattle.listing.specs.Parts.{most, Taken, takes, partOf, Parted}
-use Rattle.listing.specs.Turns.{Acted, Glided, Turned, Ended}
+use Rattle.listing.specs.Turns.{Acted, readingAfter, RowAt, listerOf, Glided, Stretched, Turned, Ended}
 use Rattle.listing.specs.declared.Lister.{Lister}
 use Rattle.listing.specs.declared.Part.{Part}
 use Rattle.listing.specs.declared.Stretch.{Stretch}
@@ -60,7 +62,7 @@ gotten f g =
 line-by : (room b : ℕ) (bs : List ℕ) (f : Feed) (at : ℕ) (t : Bool) → eqb b 10 ≡ t → length (f .said) ≤ room
     → (f2 : Feed) → f2 ≡ record { lister = withReading (f .lister) (readByte (f .lister .reading) b); said = f .said }
     → takes room f2 bs (at + 1) ≡ takes room (gotten f (gotOf (readByte (f .lister .reading) b) bs (at + 1)))
-      (drop (gotOf (readByte (f .lister .reading) b) bs (at + 1) .at - (at + 1)) bs) (gotOf (readByte (f .lister .reading) b) bs (at + 1) .at)
+    (drop (gotOf (readByte (f .lister .reading) b) bs (at + 1) .at - (at + 1)) bs) (gotOf (readByte (f .lister .reading) b) bs (at + 1) .at)
     → takes room f (b ∷ bs) at ≡ takes room (gotten f (gotOf (f .lister .reading) (b ∷ bs) at)) (drop (gotOf (f .lister .reading) (b ∷ bs) at .at - at) (b ∷ bs)) (gotOf (f .lister .reading) (b ∷ bs) at .at)
 unfolding takes gotOf feedByte closed ended
 line-by room b bs f at true e h f2 ef g = let z : at + 1 - at ≡ 1 = omega arith in rw (le-leb (length (f .said)) room h, e, z)
@@ -85,7 +87,7 @@ takes-got room f s at g e h =
     rw e
     (takes-line room (drop at s) f at h
     ∙ ap (λ (x : List ℕ). takes room (gotten f (gotOf (f .lister .reading) (drop at s) at)) x (gotOf (f .lister .reading) (drop at s) at .at))
-      (drop-drop (gotOf (f .lister .reading) (drop at s) at .at - at) at s ∙ ap (λ (n : ℕ). drop n s) z))
+    (drop-drop (gotOf (f .lister .reading) (drop at s) at .at - at) at s ∙ ap (λ (n : ℕ). drop n s) z))
 
 -- ---- a line that was taken
 line-behind : (l : Lister) (s : List ℕ) (at : ℕ) (g : Got) → g ≡ gotOf (l .reading) (drop at s) at → at ≤ g .at
@@ -127,59 +129,121 @@ turned-cut l s at n out g e w = record {
 }
 
 -- ---- bytes that go on with the message held
-ran-step : (l : Lister) (e : Event) → runsBy l e ≡ true → stepped l e ≡ ranLister l e
-unfolding runsBy stepped ranLister
-ran-step l e h = rw (runs-on (l .link) (l .counts) e h)
+-- their step, and that nothing is written for it
+ran-step : (k : Link) (c : Counts) (rd : Reading) (e : Event) → runsOn k c e ≡ true → stepped (listerOf k c rd) e ≡ listerOf (ranOn k e) (countedByte c true) freshReading
+unfolding stepped countedEvent countedAll
+ran-step k c rd e h = rw (runs-on k c e h)
 
-ran-silent : (l : Lister) (e : Event) → runsBy l e ≡ true → saidOf l e ≡ []
-unfolding runsBy saidOf answerText reportsText
-ran-silent l e h = rw (runs-on (l .link) (l .counts) e h)
-
-pub glided-start : (l : Lister) (s : List ℕ) (from : ℕ) → Glided l s from (record { lister = l; at = from })
-glided-start l s from = record { ahead = omega arith; same = λ room o h. refl }
+ran-silent : (k : Link) (c : Counts) (rd : Reading) (e : Event) → runsOn k c e ≡ true → saidOf (listerOf k c rd) e ≡ []
+unfolding saidOf answerText reportsText
+ran-silent k c rd e h = rw (runs-on k c e h)
 
 -- the line of such a byte is what its bytes give, and ends behind its place
-run-line : (x : Lister) (s : List ℕ) (at : ℕ) (q : Row) → isEmpty (x .reading) ≡ true → q ≡ rowOf s at → (q .to ≡ 0 → ⊥) → rowGot q ≡ gotOf (x .reading) (drop at s) at
-run-line x s at q e f t = rw f (sym (row-line s (x .reading) at e (λ z. t (ap (λ (k : Row). k .to) f ∙ z))))
+run-line : (rd : Reading) (s : List ℕ) (at : ℕ) (q : Row) → isEmpty rd ≡ true → q ≡ rowOf s at → (q .to ≡ 0 → ⊥) → rowGot q ≡ gotOf rd (drop at s) at
+run-line rd s at q e f t = rw f (sym (row-line s rd at e (λ z. t (ap (λ (k : Row). k .to) f ∙ z))))
 
-row-at : (q : Row) → rowGot q .at ≡ q .to
+row-place : (q : Row) → rowGot q .at ≡ q .to
 unfolding rowGot
-row-at q = refl
+row-place q = refl
 
-pub run-ahead : (x : Lister) (s : List ℕ) (at : ℕ) (q : Row) → isEmpty (x .reading) ≡ true → q ≡ rowOf s at → (q .to ≡ 0 → ⊥) → at < length s → at < q .to
-run-ahead x s at q e f t h = let k = line-ahead x s at (rowGot q) (run-line x s at q e f t) h in rw (row-at q) at k
+fresh-empty : isEmpty freshReading ≡ true
+unfolding isEmpty isLetter
+fresh-empty = refl
 
-run-on : (room : ℕ) (x : Lister) (s o : List ℕ) (at : ℕ) (q : Row) → isEmpty (x .reading) ≡ true → q ≡ rowOf s at → (q .to ≡ 0 → ⊥) → runsBy x (q .event) ≡ true → length o ≤ room
-    → takes room (record { lister = x; said = o }) (drop at s) at ≡ takes room (record { lister = ranLister x (q .event); said = o }) (drop (q .to) s) (q .to)
+pub run-ahead : (s : List ℕ) (at : ℕ) (q : Row) → q ≡ rowOf s at → (q .to ≡ 0 → ⊥) → at < length s → at < q .to
+run-ahead s at q f t h =
+    let k : at < rowGot q .at = rw (run-line freshReading s at q fresh-empty f t) (got-ahead freshReading (drop at s) at (rw (length-drop at s) (omega arith))) in
+    rw (row-place q) at k
+
+run-takes : (room : ℕ) (k : Link) (c : Counts) (rd : Reading) (s o : List ℕ) (at : ℕ) (q : Row) → isEmpty rd ≡ true → q ≡ rowOf s at → (q .to ≡ 0 → ⊥)
+    → runsOn k c (q .event) ≡ true → length o ≤ room
+    → takes room (record { lister = listerOf k c rd; said = o }) (drop at s) at
+    ≡ takes room (record { lister = listerOf (ranOn k (q .event)) (countedByte c true) freshReading; said = o }) (drop (q .to) s) (q .to)
 unfolding rowGot
-run-on room x s o at q e f t r h =
-    let w = whole-on room x s o at (rowGot q) (run-line x s at q e f t) refl h in
-    rw (ran-step x (q .event) r, ran-silent x (q .event) r, append-nil o) at w
+run-takes room k c rd s o at q e f t r h =
+    let w = whole-on room (listerOf k c rd) s o at (rowGot q) (run-line rd s at q e f t) refl h in
+    rw (ran-step k c rd (q .event) r, ran-silent k c rd (q .event) r, append-nil o) at w
 
-pub glided-on : (l : Lister) (s : List ℕ) (from : ℕ) (x : Lister) (at : ℕ) (q : Row) → isEmpty (x .reading) ≡ true → q ≡ rowOf s at → (q .to ≡ 0 → ⊥) → runsBy x (q .event) ≡ true
-    → at < length s → Glided l s from (record { lister = x; at = at }) → Glided l s from (record { lister = ranLister x (q .event); at = q .to })
-glided-on l s from x at q e f t r h g = record {
-  ahead = omega (arith, g .ahead, run-ahead x s at q e f t h);
-  same = λ room o k. g .same room o k ∙ run-on room x s o at q e f t r k;
+-- the reading behind none is the one in front, and behind some a fresh one
+after-none : (rd : Reading) (from : ℕ) → readingAfter rd from from ≡ rd
+unfolding readingAfter
+after-none rd from = rw (eq-eqb from from refl)
+
+after-some : (rd : Reading) (from at : ℕ) → from < at → readingAfter rd from at ≡ freshReading
+unfolding readingAfter
+after-some rd from at h = rw (ne-eqb from at (λ e. omega arith))
+
+after-empty : (rd : Reading) (from at : ℕ) → isEmpty rd ≡ true → isEmpty (readingAfter rd from at) ≡ true
+unfolding readingAfter
+after-empty rd from at e = by-test (λ (x : Reading). isEmpty x ≡ true) (eqb from at) (λ t. e) (λ t. fresh-empty)
+
+no-line : (s : List ℕ) (at : ℕ) (q : Row) → q .to ≡ 0 → (q .to ≡ 0 → ⊥) → q ≡ rowOf s at
+no-line s at q z t = absurd (t z)
+
+-- the lines so far
+pub record Gliding (k : Link) (c : Counts) (s : List ℕ) (from : ℕ) (x : Link) (y : Counts) (at : ℕ) : Type 0 where
+  pub ahead : from ≤ at
+  pub same : (rd : Reading) → isEmpty rd ≡ true → (room : ℕ) (o : List ℕ) → length o ≤ room
+      → takes room (record { lister = listerOf k c rd; said = o }) (drop from s) from
+      ≡ takes room (record { lister = listerOf x y (readingAfter rd from at); said = o }) (drop at s) at
+
+pub gliding-start : (k : Link) (c : Counts) (s : List ℕ) (from : ℕ) → Gliding k c s from k c from
+gliding-start k c s from = record { ahead = omega arith; same = λ rd e room o h. rw (after-none rd from) refl }
+
+pub gliding-on : (k : Link) (c : Counts) (s : List ℕ) (from : ℕ) (x : Link) (y : Counts) (at : ℕ) (q : Row) → q ≡ rowOf s at → (q .to ≡ 0 → ⊥) → runsOn x y (q .event) ≡ true
+    → at < length s → Gliding k c s from x y at → Gliding k c s from (ranOn x (q .event)) (countedByte y true) (q .to)
+gliding-on k c s from x y at q f t r h g =
+    let p = run-ahead s at q f t h in
+    record {
+      ahead = omega (arith, g .ahead);
+      same = λ rd e room o n. rw (after-some rd from (q .to) (omega (arith, g .ahead)))
+          (g .same rd e room o n ∙ run-takes room x y (readingAfter rd from at) s o at q (after-empty rd from at e) f t r n);
+    }
+
+pub glided : (k : Link) (c : Counts) (s : List ℕ) (from : ℕ) (x : Link) (y : Counts) (at : ℕ) (q : Row) → ((q .to ≡ 0 → ⊥) → q ≡ rowOf s at) → Gliding k c s from x y at
+    → Glided k c s from (record { link = x; counts = y; at = at; row = q })
+glided k c s from x y at q f g = record { ahead = g .ahead; same = g .same; row = f }
+
+no-row-place : (q : Row) → q ≡ noRow → q .to ≡ 0
+no-row-place q e = ap (λ (k : Row). k .to) e
+
+pub glided-none : (k : Link) (c : Counts) (s : List ℕ) (from : ℕ) (x : Link) (y : Counts) (at : ℕ) (q : Row) → q ≡ noRow → Gliding k c s from x y at
+    → Glided k c s from (record { link = x; counts = y; at = at; row = q })
+glided-none k c s from x y at q e g = glided k c s from x y at q (λ t. no-line s at q (no-row-place q e) t) g
+
+pub stretched-glide : (l : Lister) (s : List ℕ) (from : ℕ) (r : Stretch) → isEmpty (l .reading) ≡ true → Glided (l .link) (l .counts) s from r → Stretched l s from r
+stretched-glide l s from r e g = record {
+  ahead = g .ahead;
+  same = g .same (l .reading) e;
+  row = record { row = g .row; empty = λ t. after-empty (l .reading) from (r .at) e };
 }
 
-pub ran-empty : (l : Lister) (e : Event) → isEmpty (ranLister l e .reading) ≡ true
-unfolding ranLister isEmpty isLetter
-ran-empty l e = refl
+pub stretched-none : (l : Lister) (s : List ℕ) (from : ℕ) (q : Row) → q ≡ noRow → Stretched l s from (record { link = l .link; counts = l .counts; at = from; row = q })
+stretched-none l s from q e = record {
+  ahead = omega arith;
+  same = λ room o h. rw (after-none (l .reading) from) refl;
+  row = record { row = λ t. absurd (t (no-row-place q e)); empty = λ t. absurd (t (no-row-place q e)) };
+}
 
-pub turned-join : (l : Lister) (s : List ℕ) (at n : ℕ) (out : List ℕ) (y : Stretch) (r : Part) (after : List ℕ) → Glided l s at y → Turned (y .lister) s (y .at) n out r after
-    → Turned l s at n out r after
-turned-join l s at n out y r after g t = record {
+pub picked : (r : Reading) (q : Row) (s : List ℕ) (at : ℕ) → RowAt r q s at → (q .to ≡ 0 → ⊥) → rowGot q ≡ gotOf r (drop at s) at
+picked r q s at p t = run-line r s at q (p .empty t) (p .row t) t
+
+pub turned-join : (l : Lister) (s : List ℕ) (at n : ℕ) (out : List ℕ) (y : Stretch) (rd : Reading) (r : Part) (after : List ℕ) → Stretched l s at y
+    → rd ≡ readingAfter (l .reading) at (y .at) → Turned (listerOf (y .link) (y .counts) rd) s (y .at) n out r after → Turned l s at n out r after
+turned-join l s at n out y rd r after g e t = record {
   said = t .said;
   behind = omega (arith, g .ahead, t .behind);
   ahead = λ h. ahead-both at (y .at) (r .at) (length s) (ltb (y .at) (length s)) refl h (g .ahead) (t .behind) (t .ahead);
-  same = λ room o h. g .same room o h ∙ t .same room o h;
+  same = λ room o h. g .same room o h ∙ rw e at (t .same room o h);
   wrote = t .wrote;
 }
   where
     ahead-both : (a b c len : ℕ) (p : Bool) → ltb b len ≡ p → a < len → a ≤ b → b ≤ c → (b < len → b < c) → a < c
     ahead-both a b c len true e h k m f = omega (arith, f (ltb-true b len e))
     ahead-both a b c len false e h k m f = omega (arith, ltb-false b len e)
+
+pub row-of-pick : (r : Reading) (l : Lister) (s : List ℕ) (from : ℕ) (y : Stretch) → r ≡ readingAfter (l .reading) from (y .at) → Stretched l s from y → RowAt r (y .row) s (y .at)
+row-of-pick r l s from y e g = rw e (g .row)
 
 -- ---- the turns of a part
 pub record Going (l : Lister) (s out₀ : List ℕ) (room : ℕ) (x : Lister) (at n : ℕ) (out : List ℕ) : Type 0 where
@@ -200,7 +264,7 @@ going-on l s out₀ room x at n out r after h k g t =
       w = g .w ++ t .said;
       same = g .same ∙ t .same room (g .w) (omega arith);
       wrote = wider 0 (g .w ++ t .said) (length (g .w) + 315) (length out₀) out₀ (r .put) after (rw (length-append (g .w) (t .said)) (omega (arith, v .small)))
-              (puts-join 0 (g .w) (t .said) (length (g .w)) 315 out₀ n out (r .put) after (omega arith) (wider 0 (g .w) (length out₀) (length (g .w)) out₀ n out (omega arith) u) v);
+          (puts-join 0 (g .w) (t .said) (length (g .w)) 315 out₀ n out (r .put) after (omega arith) (wider 0 (g .w) (length out₀) (length (g .w)) out₀ n out (omega arith) u) v);
     }
 
 done-by : (room : ℕ) (f : Feed) (s : List ℕ) (at : ℕ) (p : Bool) → ltb at (length s) ≡ p → (p && leb (length (f .said)) room) ≡ false
@@ -257,11 +321,29 @@ pub ended-none : (l : Lister) (out : List ℕ) → isEmpty (l .reading) ≡ true
 unfolding finished
 ended-none l out e = record { lister = rw e refl; wrote = rw e (wider 0 [] 0 315 out 0 out (omega arith) (puts-nil 0 out)) }
 
-pub ended-line : (l : Lister) (e : Event) (out : List ℕ) (r : Part) (after : List ℕ) → isEmpty (l .reading) ≡ false → e ≡ eventOf (l .reading) → Acted l e 0 0 out r after → Ended l out r after
-unfolding finished closed
-ended-line l e out r after f q a =
-    let a2 : Acted l (eventOf (l .reading)) 0 0 out r after = rw q at a in
-    record { lister = rw f (a2 .lister); wrote = rw f (a2 .wrote) }
+-- as if the line feed came
+feed-taken : (l : Lister) (room : ℕ) → takes room (record { lister = l; said = [] }) (10 ∷ []) 0 ≡ record { feed = closed (record { lister = l; said = [] }); at = 1 }
+unfolding takes feedByte
+feed-taken l room = rw (le-leb 0 room (omega arith))
+
+past-end : (b n : ℕ) → 0 < n → drop n (b ∷ []) ≡ []
+past-end b n h = drop-of-length-le (b ∷ []) {i = n} (omega arith)
+
+feed-turned : (l : Lister) (out : List ℕ) (r : Part) (after : List ℕ) (t : Turned l (10 ∷ []) 0 0 out r after)
+    → record { lister = r .lister; said = t .said } ≡ closed (record { lister = l; said = [] })
+unfolding takes
+feed-turned l out r after t =
+    let s = t .same 0 [] (omega arith) in
+    let e = past-end 10 (r .at) (t .ahead (omega arith)) in
+    let q : takes 0 (record { lister = l; said = [] }) (10 ∷ []) 0 ≡ record { feed = record { lister = r .lister; said = t .said }; at = r .at } = rw e at s in
+    ap (λ (x : Taken). x .feed) (sym q ∙ feed-taken l 0)
+
+pub ended-line : (l : Lister) (out : List ℕ) (r : Part) (after : List ℕ) → isEmpty (l .reading) ≡ false → Turned l (10 ∷ []) 0 0 out r after → Ended l out r after
+unfolding finished
+ended-line l out r after f t =
+    let e = feed-turned l out r after t in
+    let w : Puts 0 (closed (record { lister = l; said = [] }) .said) most out (r .put) after = rw (ap (λ (x : Feed). x .said) e) at (t .wrote) in
+    record { lister = rw f (ap (λ (x : Feed). x .lister) e); wrote = rw f w }
 
 pub end-none : (p out : List ℕ) → length out < 487 → Writes p 487 0 out 0 out
 end-none p out h = record { place = rw (lt-leb 487 (length out) h) refl; memory = rw (lt-leb 487 (length out) h) refl }

@@ -1,17 +1,14 @@
 -- THE LISTING (document 01, "The listing"): from the bytes of an input to the bytes of the output. Assumes nothing.
 use Prim.Native.Nat.{ℕ, _-_}
-use mathlib.Core.Bool.{Bool, true}
 use mathlib.Core.List.{List, [], _∷_, _++_}
 use lib.Dec.{eqb}
 use Rattle.base.specs.Choice.{if_then_else_}
 use Rattle.base.specs.Numbers.{taken}
 use Rattle.events.specs.declared.Event.{Event}
 use Rattle.reports.specs.declared.Counts.{Counts}
-use Rattle.reports.specs.Counting.{zeroCounts, countedEvent}
-use Rattle.reports.specs.Reporting.{noReports}
+use Rattle.reports.specs.Counting.{zeroCounts}
 use Rattle.link.specs.Handling.{freshLink}
 use Rattle.link.specs.Stepping.{stepOf}
-use Rattle.link.specs.Running.{runsOn, ranOn}
 use Rattle.link.specs.declared.Link.{Link}
 use Rattle.link.specs.declared.Answer.{Answer}
 use Rattle.lines.specs.Lines.{freshReading, readByte, isEmpty, eventOf}
@@ -87,10 +84,3 @@ begun = record { lister = freshLister; said = headText }
 
 unfoldable pub listingOf : List ℕ → List ℕ
 listingOf input = feed begun input .said ++ endingOf (feed begun input .lister)
-
--- ---- a short way, for a byte that goes on with the message held. No rule stands here: proofs/Turns.antt proves that it is the step.
-unfoldable pub runsBy : Lister → Event → Bool
-runsBy l e = runsOn (l .link) (l .counts) e
-
-unfoldable pub ranLister : Lister → Event → Lister
-ranLister l e = record { link = ranOn (l .link) e; counts = countedEvent (l .counts) true noReports; reading = freshReading }

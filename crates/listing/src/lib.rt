@@ -1,17 +1,19 @@
 // A listing: lines of events in, lines of reports out, part by part.
 ghost use mathlib.Core.Path.{_≡_};
 ghost use Prim.Native.Nat.{_+_, _≤_};
-ghost use lib.ListN.{length};
+ghost use lib.ListN.{length, drop};
 ghost use Rattle.text.specs.Text.{Puts, Writes};
-ghost use Rattle.listing.specs.Listing.{freshLister, answerText, ranLister, runsBy, heldOf, endingOf};
+ghost use Rattle.lines.specs.Getting.{gotOf};
+ghost use Rattle.listing.specs.Listing.{freshLister, answerText, heldOf, endingOf};
 ghost use Rattle.listing.specs.Parts.{Parted};
-ghost use Rattle.listing.specs.Turns.{Acted, Glided, Turned, Ended};
+ghost use Rattle.listing.specs.Turns.{Acted, readingAfter, RowAt, Glided, Stretched, Turned, Ended};
 use events::Event;
+use lines::Got;
 use lines::Reading;
+use lines::Row;
 use link::Answer;
 use link::Link;
 use reports::Counts;
-use reports::no_reports;
 
 // Who lists: the link, its counts, and the line of input that has not ended.
 pub struct Lister {
@@ -28,10 +30,13 @@ pub struct Part {
     pub put: usize,
 }
 
-// How far bytes went on with the message held.
+// How far bytes went on with the message held: link and counts behind them, the place of the next
+// line, and that line if it was read at once.
 struct Stretch {
-    lister: Lister,
+    link: Link,
+    counts: Counts,
     at: usize,
+    row: Row,
 }
 
 // The most bytes that one line of input has written.
@@ -86,61 +91,90 @@ fn act(l: Lister, e: Event, at: usize, out: &mut [u8], put: usize) -> Part
     }
 }
 
-// Whether an event goes on with the message held.
-fn runs(l: Lister, e: Event) -> bool
-    ensures { λ r. ⌜ r ≡ runsBy l e ⌝ }
+// The lines of bytes that go on with the message held, as far as they follow one another, where a
+// line begins. Nothing is written for them.
+fn glide(k: Link, c: Counts, s: &[u8], from: usize) -> Stretch
+    ensures { λ r. ⌜ Glided k c (now (s .entry)) from r ⌝ }
 {
-    let k = l.link;
-    let c = l.counts;
-    link::runs_on(k, c, e)
-}
-
-// The lister after such an event.
-fn run(l: Lister, e: Event) -> Lister
-    ensures { λ r. ⌜ r ≡ ranLister l e ⌝ }
-{
-    let k = l.link;
-    let c = l.counts;
-    Lister {
-        link: link::run_on(k, e),
-        counts: reports::count_event(c, true, no_reports()),
-        reading: lines::begin(),
-    }
-}
-
-// The lines of bytes that go on with the message held, as far as they follow one another. Nothing is
-// written for them.
-fn glide(l: Lister, s: &[u8], from: usize) -> Stretch
-    ensures { λ r. ⌜ Glided l (now (s .entry)) from r ⌝ }
-{
-    let mut x = l;
+    let mut x = k;
+    let mut y = c;
     let mut at = from;
-    let reading = l.reading;
-    if !lines::is_empty(reading) {
-        return Stretch { lister: x, at: at };
-    }
     while at < s.len() {
         let q = lines::byte_line(s, at);
         let e = q.event;
         if q.to == 0 {
-            return Stretch { lister: x, at: at };
+            return Stretch {
+                link: x,
+                counts: y,
+                at: at,
+                row: q,
+            };
         }
-        if !runs(x, e) {
-            return Stretch { lister: x, at: at };
+        if !link::runs_on(x, y, e) {
+            return Stretch {
+                link: x,
+                counts: y,
+                at: at,
+                row: q,
+            };
         }
-        x = run(x, e);
+        x = link::run_on(x, e);
+        y = reports::count_byte(y, true);
         at = q.to;
     }
-    Stretch { lister: x, at: at }
+    Stretch {
+        link: x,
+        counts: y,
+        at: at,
+        row: lines::no_row(),
+    }
 }
 
-// A line, or as much of it as the part has.
-fn take_line(l: Lister, s: &[u8], at: usize, out: &mut [u8], put: usize) -> Part
+// The same of a lister, which may be within a line.
+fn stretch_from(l: Lister, s: &[u8], from: usize) -> Stretch
+    ensures { λ r. ⌜ Stretched l (now (s .entry)) from r ⌝ }
+{
+    let k = l.link;
+    let c = l.counts;
+    let reading = l.reading;
+    if lines::is_empty(reading) {
+        return glide(k, c, s, from);
+    }
+    Stretch {
+        link: k,
+        counts: c,
+        at: from,
+        row: lines::no_row(),
+    }
+}
+
+// The reading behind so many lines: the one in front of them if there are none.
+fn reading_after(r: Reading, from: usize, at: usize) -> Reading
+    ensures { λ x. ⌜ x ≡ readingAfter r from at ⌝ }
+{
+    if from == at {
+        return r;
+    }
+    lines::begin()
+}
+
+// The next line, which may have been read at once.
+fn pick(r: Reading, q: Row, s: &[u8], at: usize) -> Got
+    requires { ⌜ RowAt r q (now s) at ⌝ }
+    ensures { λ x. ⌜ x ≡ gotOf r (drop at (now (s .entry))) at ⌝ }
+{
+    if q.to == 0 {
+        return lines::get_line(r, s, at);
+    }
+    lines::got_row(q)
+}
+
+// What was got of a line is taken.
+fn take_line(l: Lister, g: Got, s: &[u8], at: usize, out: &mut [u8], put: usize) -> Part
+    requires { ⌜ g ≡ gotOf (l .reading) (drop at (now s)) at ⌝ }
     requires { ⌜ put + 315 ≤ length (now out) ⌝ }
     ensures { λ r. ⌜ Turned l (now (s .entry)) at put (now (out .entry)) r (now (out .exit)) ⌝ }
 {
-    let reading = l.reading;
-    let g = lines::get_line(reading, s, at);
     let e = g.event;
     let k = l.link;
     let c = l.counts;
@@ -161,13 +195,24 @@ fn take_line(l: Lister, s: &[u8], at: usize, out: &mut [u8], put: usize) -> Part
 }
 
 // Lines that write nothing, and one that may.
-fn turn(l: Lister, s: &[u8], at: usize, out: &mut [u8], put: usize) -> Part
+fn turn(l: Lister, s: &[u8], from: usize, out: &mut [u8], put: usize) -> Part
     requires { ⌜ put + 315 ≤ length (now out) ⌝ }
-    ensures { λ r. ⌜ Turned l (now (s .entry)) at put (now (out .entry)) r (now (out .exit)) ⌝ }
+    ensures { λ r. ⌜ Turned l (now (s .entry)) from put (now (out .entry)) r (now (out .exit)) ⌝ }
 {
-    let y = glide(l, s, at);
-    let x = y.lister;
-    take_line(x, s, y.at, out, put)
+    let y = stretch_from(l, s, from);
+    let at = y.at;
+    let q = y.row;
+    let k = y.link;
+    let c = y.counts;
+    let old = l.reading;
+    let reading = reading_after(old, from, at);
+    let x = Lister {
+        link: k,
+        counts: c,
+        reading: reading,
+    };
+    let g = pick(reading, q, s, at);
+    take_line(x, g, s, at, out, put)
 }
 
 // Lists a part of the input, as far as the buffer has room for what one more line may have written.
@@ -178,7 +223,11 @@ pub fn list_part(l: Lister, s: &[u8], out: &mut [u8]) -> Part
     let mut at = 0;
     let mut put = 0;
     if out.len() < MOST {
-        return Part { lister: x, at: at, put: put };
+        return Part {
+            lister: x,
+            at: at,
+            put: put,
+        };
     }
     let room = out.len() - MOST;
     while (at < s.len()) & (put <= room) {
@@ -187,7 +236,11 @@ pub fn list_part(l: Lister, s: &[u8], out: &mut [u8]) -> Part
         at = t.at;
         put = t.put;
     }
-    Part { lister: x, at: at, put: put }
+    Part {
+        lister: x,
+        at: at,
+        put: put,
+    }
 }
 
 // The bytes that no report has named.
@@ -197,16 +250,20 @@ fn held(l: Link) -> u64
     base::less(l.heard, l.named)
 }
 
-// The last line, if its line feed is missing.
+// The last line, if its line feed is missing: as if the line feed came.
 fn close(l: Lister, out: &mut [u8]) -> Part
     requires { ⌜ 315 ≤ length (now out) ⌝ }
     ensures { λ r. ⌜ Ended l (now (out .entry)) r (now (out .exit)) ⌝ }
 {
     let reading = l.reading;
     if lines::is_empty(reading) {
-        return Part { lister: l, at: 0, put: 0 };
+        return Part {
+            lister: l,
+            at: 0,
+            put: 0,
+        };
     }
-    act(l, lines::event_of(reading), 0, out, 0)
+    turn(l, b"\n", 0, out, 0)
 }
 
 // The input has ended: a last line without its line feed, and the end line. Where the buffer has

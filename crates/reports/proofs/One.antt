@@ -7,7 +7,7 @@ use Rattle.reports.specs.declared.Counts.{Counts}
 use Rattle.moves.specs.declared.Move.{Move}
 use Rattle.reports.specs.declared.Reports.{Reports}
 use Rattle.reports.specs.declared.Run.{Run}
-use Rattle.reports.specs.Counting.{zeroCounts, isFull, countedEvent}
+use Rattle.reports.specs.Counting.{zeroCounts, isFull, countedByte, countedEvent}
 use Rattle.reports.specs.Reporting.{noReports, moved}
 
 pub no-counts : Only (λ (r : Counts). r ≡ zeroCounts)
@@ -15,6 +15,9 @@ no-counts = only zeroCounts
 
 pub is-full : (events : ℕ) (c : Counts) → Only (λ (r : Bool). r ≡ isFull events c)
 is-full events c = only (isFull events c)
+
+pub count-byte : (c : Counts) (hears : Bool) → Only (λ (r : Counts). r ≡ countedByte c hears)
+count-byte c hears = only (countedByte c hears)
 
 pub count-event : (c : Counts) (hears : Bool) (rs : Reports) → Only (λ (r : Counts). r ≡ countedEvent c hears rs)
 count-event c hears rs = only (countedEvent c hears rs)

@@ -87,7 +87,7 @@ fn count_all(c: Counts, rs: Reports) -> Counts
 }
 
 // A byte is heard, or none.
-fn count_byte(c: Counts, hears: bool) -> Counts
+pub fn count_byte(c: Counts, hears: bool) -> Counts
     ensures { λ r. ⌜ r ≡ countedByte c hears ⌝ }
 {
     Counts {

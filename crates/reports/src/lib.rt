@@ -2,6 +2,7 @@
 mod counting;
 mod telling;
 
+pub use counting::count_byte;
 pub use counting::count_event;
 pub use counting::is_full;
 pub use counting::no_counts;

@@ -1,6 +1,5 @@
 -- The last line, if its line feed is missing. Assumes nothing.
 use mathlib.Core.Path.{sym, _∙_}
-use native.Mathlib.Omega.{arith}
 use borrow.Author.Needs.{needs}
 use Rattle.listing.proofs.Laws.{ended-none, ended-line}
 use Rattle.listing.proofs.close.Statement.{statement}
@@ -12,19 +11,19 @@ is-empty-requires c κs = search needs
 returns : tie.Need-returns
 returns c = ended-none _ _ (sym (c .before .is-empty .ensures) ∙ c .if1 .taken)
 
-event-of-requires : tie.Need-event-of-requires
-event-of-requires c κs = search needs
+slice-aggregate-turn : tie.Need-slice-aggregate-turn
+slice-aggregate-turn c = search needs
 
-act-requires : tie.Need-act-requires
-act-requires c κs = search needs
+turn-requires : tie.Need-turn-requires
+turn-requires c κs = search needs
 
 same-length : tie.Need-same-length
 same-length c = search needs
 
 returns-2 : tie.Need-returns-2
-returns-2 c = ended-line _ _ _ _ _ (sym (c .before .before .before .before .before .before .is-empty .ensures) ∙ c .before .before .before .before .before .if1 .left) (c .before .before .before .before .event-of .ensures) (c .before .before .act .ensures)
+returns-2 c = ended-line _ _ _ _ (sym (c .before .before .before .before .before .before .is-empty .ensures) ∙ c .before .before .before .before .before .if1 .left) (c .before .before .turn .ensures)
 
 pub close-spec : {M : Type 1} → statement M
 close-spec =
     tie.close
-    (tie.spec is-empty-requires returns event-of-requires act-requires same-length returns-2)
+    (tie.spec is-empty-requires returns slice-aggregate-turn turn-requires same-length returns-2)
