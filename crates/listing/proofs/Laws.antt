@@ -33,6 +33,7 @@ use Rattle.text.proofs.Laws.{puts-join, puts-nil, put-nil, puts-writes, writes-
 use Rattle.listing.specs.Listing.{Feed, answerText, stepped, saidOf, closed, withReading, feedByte, finished, heldOf, endingOf}
 use Rattle.listing.specs.Parts.{most, Taken, takes, partOf, Parted}
 use Rattle.listing.specs.Turns.{Acted, readingAfter, RowAt, listerOf, Glided, Stretched, Turned, Ended}
+use Rattle.listing.proofs.Sizes.{finished-small, part-kept}
 use Rattle.listing.specs.declared.Lister.{Lister}
 use Rattle.listing.specs.declared.Part.{Part}
 use Rattle.listing.specs.declared.Stretch.{Stretch}
@@ -326,24 +327,19 @@ feed-taken : (l : Lister) (room : ℕ) → takes room (record { lister = l; said
 unfolding takes feedByte
 feed-taken l room = rw (le-leb 0 room (omega arith))
 
-past-end : (b n : ℕ) → 0 < n → drop n (b ∷ []) ≡ []
-past-end b n h = drop-of-length-le (b ∷ []) {i = n} (omega arith)
+part-fed-once : (l : Lister) (n : ℕ) → 315 ≤ n → partOf l (10 ∷ []) n ≡ record { feed = closed (record { lister = l; said = [] }); at = 1 }
+unfolding partOf
+part-fed-once l n h = rw (le-ltb n most h) (feed-taken l (n - most))
 
-feed-turned : (l : Lister) (out : List ℕ) (r : Part) (after : List ℕ) (t : Turned l (10 ∷ []) 0 0 out r after)
-    → record { lister = r .lister; said = t .said } ≡ closed (record { lister = l; said = [] })
-unfolding takes
-feed-turned l out r after t =
-    let s = t .same 0 [] (omega arith) in
-    let e = past-end 10 (r .at) (t .ahead (omega arith)) in
-    let q : takes 0 (record { lister = l; said = [] }) (10 ∷ []) 0 ≡ record { feed = record { lister = r .lister; said = t .said }; at = r .at } = rw e at s in
-    ap (λ (x : Taken). x .feed) (sym q ∙ feed-taken l 0)
-
-pub ended-line : (l : Lister) (out : List ℕ) (r : Part) (after : List ℕ) → isEmpty (l .reading) ≡ false → Turned l (10 ∷ []) 0 0 out r after → Ended l out r after
+pub ended-line : (l : Lister) (out : List ℕ) (r : Part) (after : List ℕ) → 315 ≤ length out → isEmpty (l .reading) ≡ false → Parted l (10 ∷ []) out r after → Ended l out r after
 unfolding finished
-ended-line l out r after f t =
-    let e = feed-turned l out r after t in
-    let w : Puts 0 (closed (record { lister = l; said = [] }) .said) most out (r .put) after = rw (ap (λ (x : Feed). x .said) e) at (t .wrote) in
-    record { lister = rw f (ap (λ (x : Feed). x .lister) e); wrote = rw f w }
+ended-line l out r after h f p =
+    let e = part-fed-once l (length out) h in
+    let small = rw f at (finished-small l) in
+    record {
+      lister = rw f (rw e at (p .lister));
+      wrote = rw f (record { place = rw e at (p .written) ∙ sym (zero-add _); small = small; memory = rw e at (p .memory); kept = part-kept l (10 ∷ []) out r after p });
+    }
 
 pub end-none : (p out : List ℕ) → length out < 487 → Writes p 487 0 out 0 out
 end-none p out h = record { place = rw (lt-leb 487 (length out) h) refl; memory = rw (lt-leb 487 (length out) h) refl }

@@ -60,7 +60,7 @@ pub part-inside : (l : Lister) (s out : List ℕ) (r : Part) (after : List ℕ) 
 part-inside l s out r after p = rw (part-kept l s out r after p, p .written) (part-small l s (length out))
 
 -- the end writes 487 bytes at most
-finished-small : (l : Lister) → length (finished (record { lister = l; said = [] }) .said) ≤ most
+pub finished-small : (l : Lister) → length (finished (record { lister = l; said = [] }) .said) ≤ most
 unfolding finished
 finished-small l =
     by-test (λ (f : Feed). length (f .said) ≤ most) (isEmpty (l .reading)) (λ e. omega arith) (λ e. omega (arith, closed-small (record { lister = l; said = [] })))

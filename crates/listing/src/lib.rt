@@ -263,7 +263,7 @@ fn close(l: Lister, out: &mut [u8]) -> Part
             put: 0,
         };
     }
-    turn(l, b"\n", 0, out, 0)
+    list_part(l, b"\n", out)
 }
 
 // The input has ended: a last line without its line feed, and the end line. Where the buffer has

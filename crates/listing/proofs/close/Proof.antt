@@ -11,19 +11,25 @@ is-empty-requires c κs = search needs
 returns : tie.Need-returns
 returns c = ended-none _ _ (sym (c .before .is-empty .ensures) ∙ c .if1 .taken)
 
-slice-aggregate-turn : tie.Need-slice-aggregate-turn
-slice-aggregate-turn c = search needs
+slice-aggregate-list-part : tie.Need-slice-aggregate-list-part
+slice-aggregate-list-part c = search needs
 
-turn-requires : tie.Need-turn-requires
-turn-requires c κs = search needs
+list-part-requires : tie.Need-list-part-requires
+list-part-requires c κs = search needs
 
 same-length : tie.Need-same-length
 same-length c = search needs
 
 returns-2 : tie.Need-returns-2
-returns-2 c = ended-line _ _ _ _ (sym (c .before .before .before .before .before .before .is-empty .ensures) ∙ c .before .before .before .before .before .if1 .left) (c .before .before .turn .ensures)
+returns-2 c = ended-line _ _ _ _ (search needs) (sym (c .before .before .before .before .before .before .is-empty .ensures) ∙ c .before .before .before .before .before .if1 .left) (c .before .before .list-part .ensures)
 
 pub close-spec : {M : Type 1} → statement M
 close-spec =
     tie.close
-    (tie.spec is-empty-requires returns slice-aggregate-turn turn-requires same-length returns-2)
+    (tie.spec
+    is-empty-requires
+    returns
+    slice-aggregate-list-part
+    list-part-requires
+    same-length
+    returns-2)
