@@ -9,8 +9,8 @@ use borrow.Author.Tests.{le-leb, lt-ltb, le-ltb, ltb-false}
 use native.Mathlib.Omega.{arith}
 use Rattle.base.specs.Choice.{if_then_else_}
 use Rattle.text.specs.Text.{headText}
-use Rattle.listing.specs.Listing.{Feed, freshLister, saidOf, stepped, closed, feedByte, feed, finished, endingOf, begun, listingOf}
-use Rattle.listing.specs.Parts.{most, Taken, takes, partOf}
+use Rattle.listing.specs.Listing.{Feed, freshLister, saidOf, stepped, lineEnded, feedByte, feed, finished, endingOf, begun, listingOf}
+use Rattle.listing.specs.Parts.{most, Extent, takes, partOf}
 use Rattle.listing.specs.declared.Lister.{Lister}
 
 -- A call of `list_part`: the bytes that are offered, and how many the lent buffer has. Offered may be anything, and of any length; what is not read
@@ -38,7 +38,7 @@ writtenBy l (c ∷ cs) = partOf l (c .offered) (c .room) .feed .said ++ writtenB
 byte-said : (l : Lister) (o : List ℕ) (b : ℕ) (t : Bool) → eqb b 10 ≡ t
     → feedByte (record { lister = l; said = o }) b
     ≡ record { lister = feedByte (record { lister = l; said = [] }) b .lister; said = o ++ feedByte (record { lister = l; said = [] }) b .said }
-unfolding feedByte closed
+unfolding feedByte lineEnded
 byte-said l o b true e = rw e
 byte-said l o b false e = rw (e, append-nil o)
 

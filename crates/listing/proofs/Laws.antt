@@ -30,8 +30,8 @@ use Rattle.lines.specs.declared.Row.{Row}
 use Rattle.lines.proofs.Ways.{row-line}
 use Rattle.text.specs.Text.{reportsText, refusedText, endText, put, Puts, Writes}
 use Rattle.text.proofs.Laws.{puts-join, puts-nil, put-nil, puts-writes, writes-puts, reports-small, refused-small, end-small}
-use Rattle.listing.specs.Listing.{Feed, answerText, stepped, saidOf, closed, withReading, feedByte, finished, heldOf, endingOf}
-use Rattle.listing.specs.Parts.{most, Taken, takes, partOf, Parted}
+use Rattle.listing.specs.Listing.{Feed, answerText, stepped, saidOf, lineEnded, withReading, feedByte, finished, heldOf, endingOf}
+use Rattle.listing.specs.Parts.{most, Extent, takes, partOf, Parted}
 use Rattle.listing.specs.Turns.{Acted, readingAfter, RowAt, listerOf, Glided, Stretched, Turned, Ended}
 use Rattle.listing.proofs.Sizes.{finished-small, part-kept}
 use Rattle.listing.specs.declared.Lister.{Lister}
@@ -65,7 +65,7 @@ line-by : (room b : ℕ) (bs : List ℕ) (f : Feed) (at : ℕ) (t : Bool) → eq
     → takes room f2 bs (at + 1) ≡ takes room (gotten f (gotOf (readByte (f .lister .reading) b) bs (at + 1)))
     (drop (gotOf (readByte (f .lister .reading) b) bs (at + 1) .at - (at + 1)) bs) (gotOf (readByte (f .lister .reading) b) bs (at + 1) .at)
     → takes room f (b ∷ bs) at ≡ takes room (gotten f (gotOf (f .lister .reading) (b ∷ bs) at)) (drop (gotOf (f .lister .reading) (b ∷ bs) at .at - at) (b ∷ bs)) (gotOf (f .lister .reading) (b ∷ bs) at .at)
-unfolding takes gotOf feedByte closed ended
+unfolding takes gotOf feedByte lineEnded ended
 line-by room b bs f at true e h f2 ef g = let z : at + 1 - at ≡ 1 = omega arith in rw (le-leb (length (f .said)) room h, e, z)
 line-by room b bs f at false e h f2 ef g =
     let k = got-behind (readByte (f .lister .reading) b) bs (at + 1) in
@@ -323,11 +323,11 @@ unfolding finished
 ended-none l out e = record { lister = rw e refl; wrote = rw e (wider 0 [] 0 315 out 0 out (omega arith) (puts-nil 0 out)) }
 
 -- as if the line feed came
-feed-taken : (l : Lister) (room : ℕ) → takes room (record { lister = l; said = [] }) (10 ∷ []) 0 ≡ record { feed = closed (record { lister = l; said = [] }); at = 1 }
+feed-taken : (l : Lister) (room : ℕ) → takes room (record { lister = l; said = [] }) (10 ∷ []) 0 ≡ record { feed = lineEnded (record { lister = l; said = [] }); at = 1 }
 unfolding takes feedByte
 feed-taken l room = rw (le-leb 0 room (omega arith))
 
-part-fed-once : (l : Lister) (n : ℕ) → 315 ≤ n → partOf l (10 ∷ []) n ≡ record { feed = closed (record { lister = l; said = [] }); at = 1 }
+part-fed-once : (l : Lister) (n : ℕ) → 315 ≤ n → partOf l (10 ∷ []) n ≡ record { feed = lineEnded (record { lister = l; said = [] }); at = 1 }
 unfolding partOf
 part-fed-once l n h = rw (le-ltb n most h) (feed-taken l (n - most))
 

@@ -22,7 +22,7 @@ abbrev pub freshLister : Lister
 freshLister = record { link = freshLink; counts = zeroCounts; reading = freshReading }
 
 -- ---- a line
--- what an answer has written: "a line per report", "`refused N` for a refused line"
+-- what is written for an answer: "a line per report", "`refused N` for a refused line"
 unfoldable pub answerText : Answer → List ℕ
 answerText a = if eqb (a .no) taken then reportsText (a .reports) else refusedText (a .no)
 
@@ -44,8 +44,8 @@ pub record Feed : Type 0 where
   pub said : List ℕ
 
 -- the line ends
-unfoldable pub closed : Feed → Feed
-closed f = record {
+unfoldable pub lineEnded : Feed → Feed
+lineEnded f = record {
   lister = stepped (f .lister) (eventOf (f .lister .reading));
   said = f .said ++ saidOf (f .lister) (eventOf (f .lister .reading));
 }
@@ -56,7 +56,7 @@ withReading l r = record { link = l .link; counts = l .counts; reading = r }
 -- a line feed ends the line, any other byte is one of the line's
 unfoldable pub feedByte : Feed → ℕ → Feed
 feedByte f b =
-    if eqb b lineFeed then closed f else
+    if eqb b lineFeed then lineEnded f else
     record { lister = withReading (f .lister) (readByte (f .lister .reading) b); said = f .said }
 
 unfoldable pub feed : Feed → List ℕ → Feed
@@ -66,13 +66,13 @@ feed f (b ∷ bs) = feed (feedByte f b) bs
 -- ---- the end
 -- "the last line feed may be missing"
 unfoldable pub finished : Feed → Feed
-finished f = if isEmpty (f .lister .reading) then f else closed f
+finished f = if isEmpty (f .lister .reading) then f else lineEnded f
 
--- "the bytes held": those heard that no report has named
+-- "the bytes held": "those of the open message, damage or initialization that no report has named yet". A link's bytes heard less those named.
 unfoldable pub heldOf : Link → ℕ
 heldOf l = l .heard - l .named
 
--- what the end of the input has written: a last line, and "an end line of the seven counts and the bytes held"
+-- what is written at the end of the input: a last line, and "an end line of the seven counts and the bytes held"
 unfoldable pub endingOf : Lister → List ℕ
 endingOf l =
     let f = finished (record { lister = l; said = [] }) in

@@ -10,22 +10,22 @@ use Rattle.listing.specs.Listing.{Feed, feedByte}
 use Rattle.listing.specs.declared.Lister.{Lister}
 use Rattle.listing.specs.declared.Part.{Part}
 
--- the most that one byte has written: the line feed of a line with three reports
+-- no byte has more written for it, not even the line feed of a line with three reports
 abbrev pub most : ℕ
 most = 315
 
 -- how far a part is read
-pub record Taken : Type 0 where
+pub record Extent : Type 0 where
   pub feed : Feed
   pub at : ℕ
 
 -- Bytes are read while no more than `room` are written; the next of them stands at `at`.
-unfoldable pub takes : ℕ → Feed → List ℕ → ℕ → Taken
+unfoldable pub takes : ℕ → Feed → List ℕ → ℕ → Extent
 takes room f [] at = record { feed = f; at = at }
 takes room f (b ∷ bs) at = if leb (length (f .said)) room then takes room (feedByte f b) bs (at + 1) else record { feed = f; at = at }
 
--- a part s, and a buffer of n bytes: while there is room for what one more byte may have written
-unfoldable pub partOf : Lister → List ℕ → ℕ → Taken
+-- a part s, and a buffer of n bytes: while there is room for what may be written for one more byte
+unfoldable pub partOf : Lister → List ℕ → ℕ → Extent
 partOf l s n =
     if ltb n most then record { feed = record { lister = l; said = [] }; at = 0 } else takes (n - most) (record { lister = l; said = [] }) s 0
 

@@ -39,10 +39,10 @@ struct Stretch {
     row: Row,
 }
 
-// The most bytes that one line of input has written.
+// No line of input has more written for it.
 const MOST: usize = 315;
 
-// The most that the end of the input has written: those of a last line, and the end line.
+// Nor has the end of the input: a last line, and the end line.
 const MOST_AT_END: usize = 487;
 
 // A listing begins: a fresh link, counts at 0, and no line yet. The header is `text::put_head`'s.
@@ -215,7 +215,7 @@ fn turn(l: Lister, s: &[u8], from: usize, out: &mut [u8], put: usize) -> Part
     take_line(x, g, s, at, out, put)
 }
 
-// Lists a part of the input, as far as the buffer has room for what one more line may have written.
+// Lists a part of the input, as far as the buffer has room for what may be written for one more line.
 pub fn list_part(l: Lister, s: &[u8], out: &mut [u8]) -> Part
     ensures { λ r. ⌜ Parted l (now (s .entry)) (now (out .entry)) r (now (out .exit)) ⌝ }
 {
@@ -251,7 +251,7 @@ fn held(l: Link) -> u64
 }
 
 // The last line, if its line feed is missing: as if the line feed came.
-fn close(l: Lister, out: &mut [u8]) -> Part
+fn end_line(l: Lister, out: &mut [u8]) -> Part
     requires { ⌜ 315 ≤ length (now out) ⌝ }
     ensures { λ r. ⌜ Ended l (now (out .entry)) r (now (out .exit)) ⌝ }
 {
@@ -274,7 +274,7 @@ pub fn finish(l: Lister, out: &mut [u8]) -> usize
     if out.len() < MOST_AT_END {
         return 0;
     }
-    let p = close(l, out);
+    let p = end_line(l, out);
     let x = p.lister;
     let k = x.link;
     let c = x.counts;

@@ -8,8 +8,8 @@ use Rattle.listing.proofs.finish.Tie as tie
 returns : tie.Need-returns
 returns c = end-none _ _ (c .if1 .taken)
 
-close-requires : tie.Need-close-requires
-close-requires c κs = search needs
+end-line-requires : tie.Need-end-line-requires
+end-line-requires c κs = search needs
 
 held-requires : tie.Need-held-requires
 held-requires c κs = search needs
@@ -21,9 +21,9 @@ same-length : tie.Need-same-length
 same-length c = search needs
 
 returns-2 : tie.Need-returns-2
-returns-2 c = end-written _ _ _ _ _ _ _ (c .before .before .before .before .before .before .before .before .before .before .before .before .if1 .left) (c .before .before .before .before .before .before .before .before .before .before .close .ensures) (c .before .before .before .held .ensures) (c .before .before .put-end .ensures)
+returns-2 c = end-written _ _ _ _ _ _ _ (c .before .before .before .before .before .before .before .before .before .before .before .before .if1 .left) (c .before .before .before .before .before .before .before .before .before .before .end-line .ensures) (c .before .before .before .held .ensures) (c .before .before .put-end .ensures)
 
 pub finish-spec : {M : Type 1} → statement M
 finish-spec =
     tie.close
-    (tie.spec returns close-requires held-requires put-end-requires same-length returns-2)
+    (tie.spec returns end-line-requires held-requires put-end-requires same-length returns-2)

@@ -2,8 +2,8 @@
 use mathlib.Core.Path.{sym, _∙_}
 use borrow.Author.Needs.{needs}
 use Rattle.listing.proofs.Laws.{ended-none, ended-line}
-use Rattle.listing.proofs.close.Statement.{statement}
-use Rattle.listing.proofs.close.Tie as tie
+use Rattle.listing.proofs.end_line.Statement.{statement}
+use Rattle.listing.proofs.end_line.Tie as tie
 
 is-empty-requires : tie.Need-is-empty-requires
 is-empty-requires c κs = search needs
@@ -23,8 +23,8 @@ same-length c = search needs
 returns-2 : tie.Need-returns-2
 returns-2 c = ended-line _ _ _ _ (search needs) (sym (c .before .before .before .before .before .before .is-empty .ensures) ∙ c .before .before .before .before .before .if1 .left) (c .before .before .list-part .ensures)
 
-pub close-spec : {M : Type 1} → statement M
-close-spec =
+pub end-line-spec : {M : Type 1} → statement M
+end-line-spec =
     tie.close
     (tie.spec
     is-empty-requires
