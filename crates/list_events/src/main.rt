@@ -2,29 +2,24 @@
 // listing to standard output. It reads 64 KiB at a time and keeps nothing but the lister.
 ghost use Prim.Native.Nat.{_≤_};
 ghost use lib.ListN.{length};
-ghost use Rattle.list_events.specs.Reading.{Listed};
+ghost use Rattle.list_events.specs.Sending.{Listed};
 use libc::STDERR_FILENO;
 use libc::STDIN_FILENO;
 use libc::STDOUT_FILENO;
 use listing::Lister;
 
-// The lister after a part, and whether all that it wrote went out.
+// The lister behind so many bytes of a part, and whether all that was written went out.
 struct Sent {
     lister: Lister,
+    at: usize,
     whole: bool,
-}
-
-// Says on standard error what failed.
-fn complain(what: &[u8]) {
-    io::write_all(STDERR_FILENO, b"list_events: ");
-    os::fail(what);
 }
 
 // Writes to standard output, and answers whether all went out.
 fn send(text: &[u8]) -> bool {
     let is_sent = io::write_all(STDOUT_FILENO, text);
     if !is_sent {
-        complain(b"standard output");
+        os::fail(b"list_events: standard output");
     }
     is_sent
 }
@@ -40,30 +35,35 @@ fn list(l: Lister, s: &[u8], out: &mut [u8]) -> Sent
         let p = listing::list_part(x, &s[at..], out);
         let n = p.put;
         x = p.lister;
+        at = at + p.at;
         let is_sent = send(&out[..n]);
         if !is_sent {
             return Sent {
                 lister: x,
+                at: at,
                 whole: false,
             };
         }
-        at = at + p.at;
     }
     Sent {
         lister: x,
+        at: at,
         whole: true,
     }
 }
 
-// The input has ended.
-fn finish(l: Lister, out: &mut [u8]) {
+// The input has ended. (The buffer has room for what is then written.)
+fn finish(l: Lister, out: &mut [u8])
+    requires { ⌜ 487 ≤ length (now out) ⌝ }
+{
     let n = listing::finish(l, out);
     send(&out[..n]);
 }
 
-// Lists the input from a first read on, which gave `first`.
+// Lists the input from a first read on, which gave `first`. A proved loop has to end, and nothing says
+// that an input does: so it counts its turns down from a number that no run uses up.
 fn list_all(fd: i32, first: isize, buf: &mut [u8], out: &mut [u8])
-    requires { ⌜ 315 ≤ length (now out) ⌝ }
+    requires { ⌜ 487 ≤ length (now out) ⌝ }
 {
     let mut l = listing::begin();
     let mut got = first;
@@ -82,7 +82,7 @@ fn list_all(fd: i32, first: isize, buf: &mut [u8], out: &mut [u8])
         l = r.lister;
         got = libc::read(fd, buf);
         if got < 0 {
-            complain(b"the input");
+            os::fail(b"list_events: the input");
             return;
         }
         turns -= 1;
@@ -91,11 +91,11 @@ fn list_all(fd: i32, first: isize, buf: &mut [u8], out: &mut [u8])
 
 // Lists an input that is open. Where not even a first read is possible there is no listing.
 fn list_open(fd: i32, buf: &mut [u8], out: &mut [u8])
-    requires { ⌜ 315 ≤ length (now out) ⌝ }
+    requires { ⌜ 487 ≤ length (now out) ⌝ }
 {
     let first = libc::read(fd, buf);
     if first < 0 {
-        complain(b"the input");
+        os::fail(b"list_events: the input");
         return;
     }
     let n = text::put_head(out, 0);
@@ -110,12 +110,12 @@ fn open_named() -> i32 {
     let mut path = io::buffer();
     let n = os::arg(1, &mut path);
     if os::errno() != 0 {
-        complain(b"the file's name");
+        os::fail(b"list_events: the file's name");
         return -1;
     }
     let fd = os::open_read(&path[..n]);
     if fd < 0 {
-        complain(&path[..n]);
+        os::fail(&path[..n]);
     }
     fd
 }

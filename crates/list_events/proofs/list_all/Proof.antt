@@ -53,11 +53,11 @@ returns-2 c = search needs
 read-requires : tie.Need-read-requires Inv-loop μ-loop
 read-requires c κs = search needs
 
-slice-aggregate-complain : tie.Need-slice-aggregate-complain Inv-loop μ-loop
-slice-aggregate-complain c = search needs
+slice-aggregate-fail : tie.Need-slice-aggregate-fail Inv-loop μ-loop
+slice-aggregate-fail c = search needs
 
-complain-requires : tie.Need-complain-requires Inv-loop μ-loop
-complain-requires c κs = search needs
+fail-requires : tie.Need-fail-requires Inv-loop μ-loop
+fail-requires c κs = search needs
 
 same-length-5 : tie.Need-same-length-5 Inv-loop μ-loop
 same-length-5 c = search needs
@@ -106,8 +106,8 @@ list-all-spec =
     same-length-4
     returns-2
     read-requires
-    slice-aggregate-complain
-    complain-requires
+    slice-aggregate-fail
+    fail-requires
     same-length-5
     same-length-6
     returns-3

@@ -11,11 +11,11 @@ use Rattle.list_events.proofs.list_open.Tie as tie
 read-requires : tie.Need-read-requires
 read-requires c κs = search needs
 
-slice-aggregate-complain : tie.Need-slice-aggregate-complain
-slice-aggregate-complain c = search needs
+slice-aggregate-fail : tie.Need-slice-aggregate-fail
+slice-aggregate-fail c = search needs
 
-complain-requires : tie.Need-complain-requires
-complain-requires c κs = search needs
+fail-requires : tie.Need-fail-requires
+fail-requires c κs = search needs
 
 same-length : tie.Need-same-length
 same-length c = search needs
@@ -61,8 +61,8 @@ list-open-spec =
     tie.close
     (tie.spec
     read-requires
-    slice-aggregate-complain
-    complain-requires
+    slice-aggregate-fail
+    fail-requires
     same-length
     returns
     put-head-requires
