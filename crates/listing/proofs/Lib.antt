@@ -3,3 +3,4 @@ pub mod Laws
 pub mod Cuts
 pub mod Sizes
 pub mod One
+pub mod ByLines
