@@ -333,6 +333,7 @@ def fixed_lists():
         yield text(map(line, sweep(Sweep()).events))
     yield text(every_byte())
     yield text(tails())
+    yield from (one * 40_000 for one in (b"\n", b"W 0 0\n", b"B t 00 0 0\n"))  # more output than input: a buffer fills before its part is read
     yield from (b"x" * size + b"T 5\nT 4\n" for size in (256, 512, 1024, 2048, 4096, 8192, 16_384, 32_768, 65_536, 131_072))
 
 

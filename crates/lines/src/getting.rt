@@ -55,7 +55,8 @@ pub fn get_line(r: Reading, s: &[u8], at: usize) -> Got
     cut_off(x, i)
 }
 
-// What a byte's line that was read at once gives.
+// What the line of a byte that was read at once gives. (A row whose place is 0 is none: then this
+// says nothing of use.)
 pub fn got_row(q: Row) -> Got
     ensures { λ x. ⌜ x ≡ rowGot q ⌝ }
 {

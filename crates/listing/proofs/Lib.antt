@@ -4,3 +4,4 @@ pub mod Cuts
 pub mod Sizes
 pub mod One
 pub mod Whole
+pub mod ByLines

@@ -41,7 +41,7 @@ lineText [] = []
 lineText (n ∷ []) = numberText n lineFeed
 lineText (n ∷ m ∷ ns) = numberText n space ++ lineText (m ∷ ns)
 
--- "a header": `report reason first bytes time`, here a word to a line
+-- "a header": `report reason first bytes time` (one line; below, a word of it to a line)
 unfoldable pub headText : List ℕ
 headText =
     (114 ∷ 101 ∷ 112 ∷ 111 ∷ 114 ∷ 116 ∷ space ∷ [])

@@ -1,6 +1,6 @@
 // The lines of a listing, written into a lent buffer at a place. Each function answers the place
-// behind what it wrote. Where the buffer has not so many bytes from that place on as the longest
-// such text needs, it writes nothing and answers the place itself.
+// behind what it wrote. Where the buffer has fewer bytes from that place on than the bound that stands
+// at the function, which no such text exceeds, it writes nothing and answers the place itself.
 mod writing;
 
 ghost use mathlib.Core.List.{_∷_, []};
