@@ -32,7 +32,7 @@ isCapital b = leb 0x41 b && leb b 0x46
 unfoldable pub hexOf : ℕ → ℕ
 hexOf b = if isDigit b then b - 0x30 else if isCapital b then b - 0x37 else 16
 
--- a number with one digit more. No time has more than 13 digits, so that never more than 12 stand in front (`few-digits`).
+-- a number with one digit more: 12 digits in front of it are kept, and no time has more (`few-digits`)
 unfoldable pub digitOn : ℕ → ℕ → ℕ
 digitOn n b = n % 1_000_000_000_000 * 10 + (b - 0x30)
 
