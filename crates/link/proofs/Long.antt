@@ -30,7 +30,7 @@ use Rattle.talk.specs.Talk.{isFirst, laterReason, isSum, isStopped, isEffective
 use Rattle.talk.specs.declared.Request.{Request}
 use Rattle.talk.specs.declared.Request.the-variants.{Ordinary, Stop, OwnTiming, NewTiming, Stopped}
 use Rattle.talk.specs.declared.Message.{Message}
-use Rattle.phases.specs.Phases.{isStarting, isQuiet, isOpen, down, starting, connected, talking, holding, damaged, settled, timed, asked, answered, framed}
+use Rattle.phases.specs.Phases.{isStarting, isQuiet, isOpen, isConnected, down, starting, connected, talking, holding, damaged, settled, timed, asked, answered, framed}
 use Rattle.phases.specs.declared.State.{State}
 use Rattle.phases.specs.declared.State.the-variants.{Down, Starting, Quiet, Held, Damage}
 use Rattle.phases.specs.declared.Phase.{Phase}
@@ -45,14 +45,6 @@ use Rattle.link.specs.Stepping.{numberOf, refusedBy, takenBy, answerOf, 
 use Rattle.link.specs.declared.Link.{Link}
 use Rattle.link.specs.declared.Answer.{Answer}
 use Rattle.link.proofs.Ways.{off-right}
-
--- connected, whatever is open
-unfoldable pub isConnected : State → Bool
-isConnected Down = false
-isConnected Starting = false
-isConnected Quiet = true
-isConnected Held = true
-isConnected Damage = true
 
 -- THE INVARIANT: while connected, the windows in force are long enough
 abbrev pub Long : Phase → Type 0

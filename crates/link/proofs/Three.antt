@@ -27,7 +27,7 @@ use Rattle.phases.specs.declared.Phase.{Phase}
 use Rattle.moves.specs.Moves.{isSilent, afterSilence, afterP2, afterP3, sinceOrigin, afterWindow, closing, leaving}
 use Rattle.moves.specs.Moves.{startingSlow, startingFast, byteIn, afterByte, afterStop}
 use Rattle.moves.specs.declared.Move.{Move}
-use Rattle.reports.specs.Reporting.{reportOf, appended, told, moved}
+use Rattle.reports.specs.Reporting.{reportOf, appended, listed, told, moved}
 use Rattle.reports.specs.declared.Report.{Report}
 use Rattle.reports.specs.declared.Reports.{Reports}
 use Rattle.reports.specs.declared.Run.{Run}
@@ -35,14 +35,6 @@ use Rattle.link.specs.Handling.{passed, shut, hearing, byteHeard, actedB
 use Rattle.link.specs.declared.Link.{Link}
 
 -- ---- what is to be shown
--- the reports in the three places, as a list
-unfoldable pub listed : Reports → List Report
-listed rs =
-    if eqb (rs .n) 0 then [] else
-    if eqb (rs .n) 1 then rs .a ∷ [] else
-    if eqb (rs .n) 2 then rs .a ∷ rs .b ∷ [] else
-    rs .a ∷ rs .b ∷ rs .c ∷ []
-
 -- the report that a move has, if it has one
 unfoldable pub tells : Run → Move → List Report
 tells r m = if eqb (m .number) 0 then [] else reportOf r (m .number) (m .reason) ∷ []

@@ -54,6 +54,14 @@ isOpen Quiet = false
 isOpen Held = true
 isOpen Damage = true
 
+-- connected, whatever is open
+unfoldable pub isConnected : State → Bool
+isConnected Down = false
+isConnected Starting = false
+isConnected Quiet = true
+isConnected Held = true
+isConnected Damage = true
+
 -- ---- not connected
 abbrev pub noMessage : Message
 noMessage = record {

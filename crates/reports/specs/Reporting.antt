@@ -3,6 +3,7 @@
 -- Assumes nothing.
 use Prim.Native.Nat.{ℕ, _-_}
 use mathlib.Core.Bool.{Bool}
+use mathlib.Core.List.{List, [], _∷_}
 use lib.Dec.{eqb, leb}
 use Rattle.base.specs.Choice.{if_then_else_}
 use Rattle.units.specs.Units.{micros}
@@ -39,6 +40,14 @@ appended rs r =
     if eqb (rs .n) 0 then record { a = r; b = rs .b; c = rs .c; n = 1 } else
     if eqb (rs .n) 1 then record { a = rs .a; b = r; c = rs .c; n = 2 } else
     if eqb (rs .n) 2 then record { a = rs .a; b = rs .b; c = r; n = 3 } else rs
+
+-- the reports in the three places, in order
+unfoldable pub listed : Reports → List Report
+listed rs =
+    if eqb (rs .n) 0 then [] else
+    if eqb (rs .n) 1 then rs .a ∷ [] else
+    if eqb (rs .n) 2 then rs .a ∷ rs .b ∷ [] else
+    rs .a ∷ rs .b ∷ rs .c ∷ []
 
 -- a move is made: its phase, and its report if it has one
 unfoldable pub told : Run → Move → Run

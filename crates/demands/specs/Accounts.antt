@@ -1,0 +1,68 @@
+-- Demand 3: what reports name, and counts worked out from a history. Assumes nothing.
+use Prim.Native.Nat.{ℕ, _+_, _-_, _≤_}
+use mathlib.Core.Bool.{false}
+use mathlib.Core.List.{List, [], _∷_, _++_}
+use mathlib.Core.Path.{_≡_}
+use lib.Dec.{eqb}
+use lib.ListN.{length, take, drop}
+use Rattle.base.specs.Choice.{if_then_else_}
+use Rattle.base.specs.Reports.{frameReport, damageReport, connectedReport, failedReport, outsideReport}
+use Rattle.events.specs.declared.Event.{Event}
+use Rattle.phases.specs.Phases.{isStarting, isOpen}
+use Rattle.reports.specs.declared.Report.{Report}
+use Rattle.reports.specs.declared.Counts.{Counts}
+use Rattle.listing.specs.Listing.{heldOf}
+use Rattle.demands.specs.Logs.{Log, heardIn}
+use Rattle.demands.specs.Histories.{Step, after, answerTo, reportsOf}
+
+-- "A report names its bytes by the first one's index and their number": those bytes among the ones heard
+unfoldable pub namedBy : List ℕ → Report → List ℕ
+namedBy heard r = take (r .bytes) (drop (r .first) heard)
+
+-- the bytes that reports name, in order
+unfoldable pub allNamed : List ℕ → List Report → List ℕ
+allNamed heard [] = []
+allNamed heard (r ∷ rs) = namedBy heard r ++ allNamed heard rs
+
+-- the last so many bytes
+unfoldable pub lastOf : ℕ → List ℕ → List ℕ
+lastOf n heard = drop (length heard - n) heard
+
+-- each report's first index is the number of bytes named before it, n of them before the first report
+pub data InTurn : ℕ → List Report → Type 0 where
+  end : {n : ℕ} → InTurn n []
+  then : {n : ℕ} {r : Report} {rs : List Report} → r .first ≡ n → InTurn (n + r .bytes) rs → InTurn n (r ∷ rs)
+
+-- "Counts: bytes heard, bytes in reports 1, 2, 3 with 4, and 5; reports 1; reports 2."
+unfoldable pub bytesIn : ℕ → List Report → ℕ
+bytesIn number [] = 0
+bytesIn number (r ∷ rs) = (if eqb (r .number) number then r .bytes else 0) + bytesIn number rs
+
+unfoldable pub reportsIn : ℕ → List Report → ℕ
+reportsIn number [] = 0
+reportsIn number (r ∷ rs) = (if eqb (r .number) number then 1 else 0) + reportsIn number rs
+
+unfoldable pub countsOf : List ℕ → List Report → Counts
+countsOf heard rs = record {
+  heard = length heard;
+  framed = bytesIn frameReport rs;
+  damaged = bytesIn damageReport rs;
+  started = bytesIn connectedReport rs + bytesIn failedReport rs;
+  outside = bytesIn outsideReport rs;
+  frames = reportsIn frameReport rs;
+  damages = reportsIn damageReport rs;
+}
+
+-- DEMAND 3 of a step, after the events es
+pub record Accounted (step : Step) (es : Log) : Type 0 where
+  -- "the bytes the reports name, in order, followed by those held, are the bytes heard, each once"
+  pub bytes : allNamed (heardIn es) (reportsOf step es) ++ lastOf (heldOf (after step es .link)) (heardIn es) ≡ heardIn es
+  -- the first index of each is the number of bytes named before it
+  pub indexes : InTurn 0 (reportsOf step es)
+  -- "every count equals the one worked out from that history"
+  pub counts : after step es .counts ≡ countsOf (heardIn es) (reportsOf step es)
+  -- "At most three per event."
+  pub three : (e : Event) → answerTo step es e .reports .n ≤ 3
+  -- no more bytes are held than were heard, and none while neither a message, nor damage, nor an initialization is open
+  pub held : heldOf (after step es .link) ≤ length (heardIn es)
+  pub idle : isOpen (after step es .link .phase .state) ≡ false → isStarting (after step es .link .phase .state) ≡ false → heldOf (after step es .link) ≡ 0

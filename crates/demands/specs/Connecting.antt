@@ -1,0 +1,27 @@
+-- When an event completes an initialization: a condition on the events taken before it, and on no link. Assumes nothing.
+use Prim.Native.Nat.{ℕ, _+_, _≤_}
+use mathlib.Core.Path.{_≡_}
+use mathlib.Core.Logic.{_⊎_}
+use Rattle.events.specs.declared.Kind.the-variants.{Byte, Tick}
+use Rattle.events.specs.declared.Event.{Event}
+use Rattle.demands.specs.Logs.{Log, none, _▷_, markOf}
+use Rattle.demands.specs.Starts.{SlowStart, FastStart}
+
+-- a log is `before`, then the event s, and then only ticks and bytes, of which the bytes are bs
+pub data Since (s : Event) (before : Log) : Log → Log → Type 0 where
+  here : Since s before (before ▷ s) none
+  tick : {log bs : Log} {e : Event} → e .kind ≡ Tick → Since s before log bs → Since s before (log ▷ e) bs
+  byte : {log bs : Log} {e : Event} → e .kind ≡ Byte → Since s before log bs → Since s before (log ▷ e) (bs ▷ e)
+
+-- THE EVENT e COMPLETES AN INITIALIZATION: the log ends in an address or wake-up that was idle long enough, and then only ticks and bytes, and these
+-- bytes with the byte e are a good slow or fast start with these key bytes. "A or W needs 300 ms from the old mark to its start".
+pub record Connects (log : Log) (e : Event) : Type 0 where
+  pub start : Event
+  pub before : Log
+  pub bytes : Log
+  pub kb1 : ℕ
+  pub kb2 : ℕ
+  pub since : Since start before log bytes
+  pub idle : markOf before .0 + 300_000 ≤ start .start .0
+  pub last : e .kind ≡ Byte
+  pub good : SlowStart start kb1 kb2 (bytes ▷ e) ⊎ FastStart start kb1 kb2 (bytes ▷ e)

@@ -1,0 +1,7 @@
+pub mod Logs
+pub mod Refusals
+pub mod Histories
+pub mod Starts
+pub mod Connecting
+pub mod Sessions
+pub mod Accounts

@@ -1,0 +1,171 @@
+-- A connected link's session, told by the history: its key bytes, the frames reported in it, the windows in force and the reply that may come.
+-- (document 01, "Connected." and "By their data")
+-- Assumes nothing.
+use Prim.Native.Nat.{ℕ, _<_}
+use mathlib.Core.Bool.{Bool, true, false, _&&_, _||_}
+use mathlib.Core.List.{List, [], _∷_}
+use mathlib.Core.Path.{_≡_}
+use mathlib.Core.Logic.{_↔_, _⊎_}
+use lib.Dec.{eqb}
+use lib.ListN.{length, getD}
+use Rattle.base.specs.Choice.{if_then_else_}
+use Rattle.base.specs.Numbers.{taken}
+use Rattle.base.specs.Reports.{frameReport, damageReport, noReplyReport, downReport, early, stray}
+use Rattle.units.specs.Units.{gapOf}
+use Rattle.units.specs.declared.Micros.{Micros}
+use Rattle.keys.specs.Keys.{goodPair}
+use Rattle.timing.specs.Timing.{setOf, decodedOf, isPassed}
+use Rattle.timing.specs.declared.Windows.{Windows}
+use Rattle.timing.specs.declared.Codes.{Codes}
+use Rattle.frame.specs.Read.{readOf, dataOf}
+use Rattle.events.specs.Events.{isTester}
+use Rattle.events.specs.declared.Side.{Side}
+use Rattle.events.specs.declared.Side.the-variants.{Tester, Unit}
+use Rattle.events.specs.declared.Kind.the-variants.{Byte}
+use Rattle.events.specs.declared.Event.{Event}
+use Rattle.talk.specs.Talk.{ifAllowed}
+use Rattle.talk.specs.declared.Reply.{Reply}
+use Rattle.talk.specs.declared.Reply.the-variants.{Never, First, Further}
+use Rattle.phases.specs.Phases.{isConnected}
+use Rattle.reports.specs.declared.Report.{Report}
+use Rattle.link.specs.declared.Link.{Link}
+use Rattle.demands.specs.Logs.{Log, _▷_, markOf, heardIn, numberAfter, takenOf, Begins}
+use Rattle.demands.specs.Refusals.{Not}
+use Rattle.demands.specs.Histories.{Step, reportsTo, Says}
+use Rattle.demands.specs.Connecting.{Connects}
+use Rattle.demands.specs.Accounts.{namedBy}
+
+-- ---- the frames of a session, oldest first: whose each is, and its bytes
+pub record Frame : Type 0 where
+  pub side : Side
+  pub bytes : List ℕ
+
+infixl 40 _▸_
+pub data Frames : Type 0 where
+  nothing : Frames
+  _▸_ : Frames → Frame → Frames
+
+-- ---- what frames do, by their data
+unfoldable pub same : List ℕ → List ℕ → Bool
+same [] [] = true
+same [] (b ∷ bs) = false
+same (a ∷ bs) [] = false
+same (a ∷ rest) (b ∷ bs) = eqb a b && same rest bs
+
+-- "a unit frame starting C2 after a tester frame starting 82"
+unfoldable pub stops : List ℕ → List ℕ → Bool
+stops q a = eqb (getD q 0 0) 0x82 && eqb (getD a 0 0) 0xC2
+
+-- "A unit frame of exactly C3 01 after exactly 83 01"
+unfoldable pub resets : List ℕ → List ℕ → Bool
+resets q a = same q (0x83 ∷ 0x01 ∷ []) && same a (0xC3 ∷ 0x01 ∷ [])
+
+-- "Exactly C3 03 after exactly 83 03 and five codes"
+unfoldable pub retimes : List ℕ → List ℕ → Bool
+retimes q a = eqb (length q) 7 && eqb (getD q 0 0) 0x83 && eqb (getD q 1 0) 0x03 && same a (0xC3 ∷ 0x03 ∷ [])
+
+unfoldable pub codesIn : List ℕ → Codes
+codesIn q = record { p2min = getD q 2 0; p2max = getD q 3 0; p3min = getD q 4 0; p3max = getD q 5 0; p4min = getD q 6 0 }
+
+-- "'After' means that it is the latest tester frame. Each takes effect once for its request.": the data of the latest tester frame, and no data (which
+-- no frame has) before the first one and once it has taken effect.
+unfoldable pub pendingIn : ℕ → ℕ → Frames → List ℕ
+pendingIn kb1 kb2 nothing = []
+pendingIn kb1 kb2 (fs ▸ f) =
+    let q = pendingIn kb1 kb2 fs in
+    let a = dataOf kb1 kb2 (f .bytes) in
+    if isTester (f .side) then a else
+    if stops q a || resets q a || retimes q a then [] else q
+
+-- THE WINDOWS IN FORCE. "Timing starts at the set KB1 names." A unit frame may change it: "KB1's set", or "those codes from this frame's end, if
+-- allowed, else no change".
+unfoldable pub windowsIn : ℕ → ℕ → Frames → Windows
+windowsIn kb1 kb2 nothing = setOf kb1
+windowsIn kb1 kb2 (fs ▸ f) =
+    let q = pendingIn kb1 kb2 fs in
+    let a = dataOf kb1 kb2 (f .bytes) in
+    if isTester (f .side) then windowsIn kb1 kb2 fs else
+    if resets q a then setOf kb1 else
+    if retimes q a then ifAllowed (decodedOf (codesIn q)) (windowsIn kb1 kb2 fs) else windowsIn kb1 kb2 fs
+
+-- ---- a session so far
+pub record Talk : Type 0 where
+  pub kb1 : ℕ
+  pub kb2 : ℕ
+  pub frames : Frames
+  pub reply : Reply
+
+-- at its beginning no reply is expected
+abbrev pub opening : ℕ → ℕ → Talk
+opening kb1 kb2 = record { kb1 = kb1; kb2 = kb2; frames = nothing; reply = Never }
+
+-- A report of it. 1: one frame more; "A tester frame awaits a first reply; a unit frame allows further ones." 2 and 6: "no reply is expected".
+unfoldable pub afterReport : Talk → Side → List ℕ → Report → Talk
+afterReport t side heard r =
+    if eqb (r .number) frameReport then record {
+      kb1 = t .kb1;
+      kb2 = t .kb2;
+      frames = t .frames ▸ record { side = side; bytes = namedBy heard r };
+      reply = if isTester side then First else Further;
+    } else
+    if eqb (r .number) damageReport || eqb (r .number) noReplyReport then record { kb1 = t .kb1; kb2 = t .kb2; frames = t .frames; reply = Never } else t
+
+-- the reports of an event from this side (a frame is reported by its own last byte), by what was heard up to it
+unfoldable pub talkAfter : Talk → Side → List ℕ → List Report → Talk
+talkAfter t side heard [] = t
+talkAfter t side heard (r ∷ rs) = talkAfter (afterReport t side heard r) side heard rs
+
+-- A SESSION: from an event that completes an initialization on, as long as no report 7 is made.
+pub data Session (step : Step) : Log → Talk → Type 0 where
+  opens : {es : Log} {e : Event} → numberAfter (takenOf es) e ≡ taken → (c : Connects (takenOf es) e) → Session step (es ▷ e) (opening (c .kb1) (c .kb2))
+  lasts : {es : Log} {e : Event} {t : Talk} → Session step es t → Not (Says downReport (reportsTo step es e))
+      → Session step (es ▷ e) (talkAfter t (e .side) (heardIn (es ▷ e)) (reportsTo step es e))
+
+-- what a session says of its link
+abbrev pub inForce : Talk → Windows
+inForce t = windowsIn (t .kb1) (t .kb2) (t .frames)
+
+pub record IsIn (t : Talk) (l : Link) : Type 0 where
+  pub connected : isConnected (l .phase .state) ≡ true
+  pub good : goodPair (t .kb1) (t .kb2) ≡ true
+  pub kb1 : l .phase .start .kb1 ≡ t .kb1
+  pub kb2 : l .phase .start .kb2 ≡ t .kb2
+  pub windows : l .phase .windows ≡ inForce t
+  pub reply : l .phase .reply ≡ t .reply
+
+-- ---- a report 1: the session that its event came in, and the frame that `read` takes under the session's key bytes
+pub record Reads (step : Step) (es : Log) (e : Event) (r : Report) : Type 0 where
+  pub talk : Talk
+  pub session : Session step es talk
+  pub reads : readOf (talk .kb1) (talk .kb2) (namedBy (heardIn (es ▷ e)) r) .no ≡ taken
+
+-- ---- the first byte of a message: its gap, and whether it breaks the windows in force
+abbrev pub gapBefore : Log → Event → Micros
+gapBefore log b = gapOf (markOf log) (b .start)
+
+-- "From the unit, stray (4) unless a first or further reply may come and the gap is at most P2 max"
+abbrev pub Stray : Talk → Micros → Event → Type 0
+Stray t gap b = (b .side ≡ Unit) × ((t .reply ≡ Never) ⊎ (isPassed (inForce t .p2max) gap ≡ true))
+
+-- "from the tester, early (reason 3) while a first reply is awaited or the gap is under P3 min"; from the unit "then early (3) under P2 min"
+abbrev pub Early : Talk → Micros → Event → Type 0
+Early t gap b =
+    ((b .side ≡ Tester) × ((t .reply ≡ First) ⊎ (gap .0 < inForce t .p3min .0)))
+    ⊎ ((b .side ≡ Unit) × Not (Stray t gap b) × (gap .0 < inForce t .p2min .0))
+
+-- the first of the bytes that a report names, in the history: the events before it, and the session that it came in
+pub record FirstByte (step : Step) (es : Log) (r : Report) : Type 0 where
+  pub before : Log
+  pub byte : Event
+  pub talk : Talk
+  pub begins : Begins (before ▷ byte) es
+  pub kind : byte .kind ≡ Byte
+  pub number : numberAfter (takenOf before) byte ≡ taken
+  pub index : length (heardIn before) ≡ r .first
+  pub session : Session step (before ▷ byte) talk
+
+-- and whether it was early or stray is the report's reason 3 or 4, and nothing else is
+pub record Turns (step : Step) (es : Log) (r : Report) : Type 0 where
+  pub first : FirstByte step es r
+  pub early : ((r .number ≡ damageReport) × (r .reason ≡ early)) ↔ Early (first .talk) (gapBefore (takenOf (first .before)) (first .byte)) (first .byte)
+  pub stray : ((r .number ≡ damageReport) × (r .reason ≡ stray)) ↔ Stray (first .talk) (gapBefore (takenOf (first .before)) (first .byte)) (first .byte)

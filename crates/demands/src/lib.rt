@@ -1,0 +1,1 @@
+// The three demands as theorems: definitions and proofs only.
