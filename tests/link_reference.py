@@ -464,10 +464,10 @@ class Sessions:
         else:
             self.send("B", "e", 1, at + 1, at)
 
-    def run(self, n):
-        d = self.dice
+    def go_on(self, n):
+        """Sessions, as long as there are fewer than n events."""
         while len(self.events) < n:
-            if d.one_in(25):
+            if self.dice.one_in(25):
                 self.disturb()
             elif self.link.state == "down":
                 self.start()
@@ -475,6 +475,10 @@ class Sessions:
                 self.initialize()
             else:
                 self.exchange()
+        return self
+
+    def run(self, n):
+        self.go_on(n)
         self.send("T", "", 0, LATEST, LATEST)
         self.send("T", "", 0, LATEST + 1, LATEST + 1)
         return self

@@ -85,16 +85,7 @@ class Talk(Sessions):
             base = LATEST - n * 100_000
         if base > 0:
             self.send("T", "", 0, base, base)
-        while len(self.events) < n:
-            if d.one_in(25):
-                self.disturb()
-            elif self.link.state == "down":
-                self.start()
-            elif self.link.state == "init":
-                self.initialize()
-            else:
-                self.exchange()
-        return self
+        return self.go_on(n)
 
 
 # ---- every key byte, byte of an initialization, first byte of a message, timing code and answer

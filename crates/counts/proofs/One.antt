@@ -1,5 +1,4 @@
 -- Any two answers, with the counts that they leave, that meet the promise of a step are equal. Assumes nothing.
-use mathlib.Core.Path.{_≡_}
 use Rattle.base.proofs.One.{Only, only-both}
 use Rattle.events.specs.declared.Event.{Event}
 use Rattle.link.specs.Stepping.{stepOf}

@@ -1,30 +1,27 @@
 -- A byte's line read at once is what its bytes give one by one. Assumes nothing.
 use Prim.Native.Nat.{ℕ, zero, suc, _+_, _*_, _-_, _%_, _≤_, _<_, _^_}
 use mathlib.Core.Path.{_≡_, refl, sym, _∙_, ap}
-use mathlib.Core.Bool.{Bool, true, false, not, _&&_, false≢true}
+use mathlib.Core.Bool.{Bool, true, false, _&&_, false≢true}
 use mathlib.Core.List.{List}
 use lib.Dec.{eqb, leb, ltb}
 use lib.ListN.{length, getD, drop}
-use borrow.Author.Tests.{eqb-true, eqb-false, ltb-true, ltb-false, leb-true, eq-eqb, ne-eqb, lt-ltb, le-ltb, not-true, not-false}
+use borrow.Author.Tests.{eqb-true, eqb-false, ltb-true, ltb-false, leb-true, lt-ltb}
 use native.Mathlib.Omega.{arith}
 use native.Mathlib.Nat.{pow-le-pow-right, pow-succ', mod-eq-of-lt}
-use Rattle.base.specs.Choice.{if_then_else_}
 use Rattle.base.specs.Sums.{byteSum}
 use Rattle.base.proofs.Tests.{and-split}
 use Rattle.units.specs.Units.{micros}
 use Rattle.events.specs.Events.{kindBy, sideBy, sameSide, isNobody}
-use Rattle.events.specs.declared.Kind.the-variants.{Byte, Other}
+use Rattle.events.specs.declared.Kind.the-variants.{Byte}
 use Rattle.events.specs.declared.Side.{Side}
 use Rattle.events.specs.declared.Side.the-variants.{Tester, Unit, Nobody}
-use Rattle.lines.specs.Lines.{isDigit, isCapital, hexOf, digitOn, begun, lettered, spaced, sided, highRead, lowRead, takesDigit, startRead, endRead}
+use Rattle.lines.specs.Lines.{isDigit, isCapital, hexOf, digitOn, lettered, spaced, sided, highRead, lowRead, takesDigit, startRead, endRead}
 use Rattle.lines.specs.Lines.{readByte, isLetter, isEmpty, isLast, isWhole, eventOf}
 use Rattle.lines.specs.Getting.{gotOf, ended}
-use Rattle.lines.specs.Quick.{digitsAt, noRow, secondAt, timesAt, hasWords, rowAt, rowOf, rowGot}
+use Rattle.lines.specs.Quick.{digitsAt, secondAt, timesAt, hasWords, rowAt, rowOf, rowGot}
 use Rattle.lines.specs.declared.Place.{Place}
 use Rattle.lines.specs.declared.Place.the-variants.{Letter, BeforeSide, AtSide, BeforeHex, High, Low, BeforeTime, Time, BeforeStart, Start, End, Nowhere}
 use Rattle.lines.specs.declared.Reading.{Reading}
-use Rattle.lines.specs.declared.Row.{Row}
-use Rattle.lines.specs.declared.quick.Span.{Span}
 use Rattle.lines.proofs.Laws.{digit-within, digits-within}
 use Rattle.lines.proofs.Parts.{got-feed, got-byte}
 

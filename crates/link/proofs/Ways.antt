@@ -1,7 +1,7 @@
 -- The short ways of the code are the rules' own: where no time runs out, passing time changes nothing; and a byte that makes no report is answered
 -- with the link gone on. An event that runs on is such a byte. Assumes nothing.
 use Prim.Native.Nat.{ℕ}
-use mathlib.Core.Bool.{Bool, true, false, not, _&&_, _||_, false≢true}
+use mathlib.Core.Bool.{Bool, true, false, not, _&&_, false≢true}
 use mathlib.Core.Path.{_≡_, _∙_, refl, sym, ap}
 use lib.Dec.{eqb}
 use borrow.Author.Tests.{eq-eqb, eqb-true, not-true}
@@ -31,7 +31,7 @@ use Rattle.phases.specs.declared.State.the-variants.{Down, Starting, Quiet, Hel
 use Rattle.phases.specs.declared.Phase.{Phase}
 use Rattle.reports.specs.Reporting.{moved, noReports}
 use Rattle.reports.specs.Counting.{countedEvent}
-use Rattle.link.specs.Handling.{passed, hearing, byteHeard, actedBy, acted, handled, markAfter, linkAfter}
+use Rattle.link.specs.Handling.{passed, byteHeard, actedBy, acted, handled, markAfter, linkAfter}
 use Rattle.link.specs.Handling.{begun as begins}
 use Rattle.link.specs.Stepping.{numberOf, takenBy, answerOf, countsAfter, stepOf}
 use Rattle.link.specs.Quick.{limitOf, calmIn, isCalm, wentOn, goesOn, isFirstByte}

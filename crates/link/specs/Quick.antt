@@ -1,8 +1,7 @@
 -- Tests that the code takes first, for the common byte. No rule stands here, and a reader may pass it over: that under these tests the answer is
 -- the one of `Stepping` is proved in proofs/Ways.antt.
 -- Assumes nothing.
-use Prim.Native.Nat.{ℕ}
-use mathlib.Core.Bool.{Bool, true, false, not, _&&_, _||_}
+use mathlib.Core.Bool.{Bool, true, not, _&&_}
 use Rattle.base.specs.Choice.{if_then_else_}
 use Rattle.base.specs.Numbers.{taken}
 use Rattle.base.specs.Sums.{countSum}
@@ -11,11 +10,9 @@ use Rattle.units.specs.declared.Micros.{Micros}
 use Rattle.timing.specs.Timing.{isPassed}
 use Rattle.timing.specs.declared.Limit.{Limit}
 use Rattle.events.specs.Events.{isByte, sameSide}
-use Rattle.events.specs.declared.Side.{Side}
 use Rattle.events.specs.declared.Event.{Event}
 use Rattle.starts.specs.Starts.{isOver}
 use Rattle.talk.specs.Talk.{isFirst, isInside}
-use Rattle.talk.specs.declared.Message.{Message}
 use Rattle.phases.specs.Phases.{isHeld, isQuiet}
 use Rattle.moves.specs.Moves.{isSilent, sinceOrigin}
 use Rattle.phases.specs.declared.State.{State}

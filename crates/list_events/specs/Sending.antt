@@ -5,7 +5,7 @@ use mathlib.Core.Path.{_≡_}
 use mathlib.Core.Bool.{true}
 use mathlib.Core.List.{List, []}
 use lib.ListN.{length, take}
-use Rattle.listing.specs.Listing.{Feed, feed}
+use Rattle.listing.specs.Listing.{feed}
 use Rattle.listing.specs.declared.Lister.{Lister}
 use Rattle.list_events.specs.declared.Sent.{Sent}
 

@@ -1,16 +1,15 @@
 -- HOWEVER THE INPUT IS CUT, its listing is the same. Assumes nothing.
-use Prim.Native.Nat.{ℕ, zero, suc, _+_, _-_, _≤_, _<_}
+use Prim.Native.Nat.{ℕ, suc, _+_, _-_, _≤_, _<_}
 use mathlib.Core.Path.{_≡_, refl, sym, _∙_, ap}
 use mathlib.Core.Bool.{Bool, true, false}
 use mathlib.Core.List.{List, [], _∷_, _++_, append-assoc, append-nil}
 use lib.Dec.{eqb, leb, ltb}
 use lib.ListN.{length, take}
-use borrow.Author.Tests.{le-leb, lt-ltb, le-ltb, ltb-false}
+use borrow.Author.Tests.{le-leb, le-ltb}
 use native.Mathlib.Omega.{arith}
-use Rattle.base.specs.Choice.{if_then_else_}
 use Rattle.text.specs.Text.{headText}
-use Rattle.listing.specs.Listing.{Feed, freshLister, saidOf, stepped, lineEnded, feedByte, feed, finished, endingOf, begun, listingOf}
-use Rattle.listing.specs.Parts.{most, Extent, takes, partOf}
+use Rattle.listing.specs.Listing.{Feed, freshLister, lineEnded, feedByte, feed, endingOf, listingOf}
+use Rattle.listing.specs.Parts.{most, takes, partOf}
 use Rattle.listing.specs.declared.Lister.{Lister}
 
 -- A call of `list_part`: the bytes that are offered, and how many the lent buffer has. Offered may be anything, and of any length; what is not read

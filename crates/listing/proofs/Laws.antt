@@ -1,8 +1,8 @@
 -- Laws of lines within a part. Assumes nothing.
-use Prim.Native.Nat.{ℕ, zero, suc, _+_, _-_, _≤_, _<_}
+use Prim.Native.Nat.{ℕ, suc, _+_, _-_, _≤_, _<_}
 use mathlib.Core.Path.{_≡_, refl, sym, _∙_, ap}
-use mathlib.Core.Bool.{Bool, true, false, not, _&&_}
-use mathlib.Core.List.{List, [], _∷_, _++_, append-nil, append-assoc}
+use mathlib.Core.Bool.{Bool, true, false, _&&_}
+use mathlib.Core.List.{List, [], _∷_, _++_, append-nil}
 use lib.Dec.{eqb, leb, ltb}
 use lib.ListN.{length, drop, length-append, length-drop, drop-of-length-le}
 use lib.Seq.{drop-drop, drop-cons}
@@ -21,7 +21,7 @@ use Rattle.link.specs.declared.Link.{Link}
 use Rattle.link.specs.declared.Answer.{Answer}
 use Rattle.link.specs.declared.Stepped.{Stepped}
 use Rattle.link.proofs.Ways.{runs-on}
-use Rattle.lines.specs.Lines.{freshReading, readByte, isLetter, isEmpty, eventOf}
+use Rattle.lines.specs.Lines.{freshReading, readByte, isLetter, isEmpty}
 use Rattle.lines.specs.Getting.{gotOf, ended, cutOff}
 use Rattle.lines.specs.Quick.{noRow, rowOf, rowGot}
 use Rattle.lines.specs.declared.Reading.{Reading}
@@ -31,7 +31,7 @@ use Rattle.lines.proofs.Ways.{row-line}
 use Rattle.text.specs.Text.{reportsText, refusedText, endText, put, Puts, Writes}
 use Rattle.text.proofs.Laws.{puts-join, puts-nil, put-nil, puts-writes, writes-puts, reports-small, refused-small, end-small}
 use Rattle.listing.specs.Listing.{Feed, answerText, stepped, saidOf, lineEnded, withReading, feedByte, finished, heldOf, endingOf}
-use Rattle.listing.specs.Parts.{most, Extent, takes, partOf, Parted}
+use Rattle.listing.specs.Parts.{most, takes, partOf, Parted}
 use Rattle.listing.specs.Turns.{Acted, readingAfter, RowAt, listerOf, Glided, Stretched, Turned, Ended}
 use Rattle.listing.proofs.Sizes.{finished-small, part-kept}
 use Rattle.listing.specs.declared.Lister.{Lister}

@@ -1,20 +1,19 @@
 -- How much is written at most. Assumes nothing.
-use Prim.Native.Nat.{ℕ, _+_, _-_, _≤_, _<_}
-use mathlib.Core.Path.{_≡_, refl, sym, _∙_, ap}
+use Prim.Native.Nat.{ℕ, _+_, _-_, _≤_}
+use mathlib.Core.Path.{_≡_, refl}
 use mathlib.Core.Bool.{Bool, true, false}
-use mathlib.Core.List.{List, [], _∷_, _++_}
+use mathlib.Core.List.{List, [], _∷_}
 use lib.Dec.{eqb, leb, ltb}
 use lib.ListN.{length, length-append}
 use borrow.Author.Tests.{leb-true, ltb-false}
 use native.Mathlib.Omega.{arith}
-use Rattle.base.specs.Choice.{if_then_else_}
 use Rattle.base.specs.Numbers.{taken}
 use Rattle.base.proofs.Tests.{by-test}
 use Rattle.events.specs.declared.Event.{Event}
 use Rattle.link.specs.Stepping.{stepOf}
 use Rattle.link.specs.declared.Answer.{Answer}
 use Rattle.lines.specs.Lines.{isEmpty, eventOf}
-use Rattle.text.specs.Text.{refusedText, reportsText, endText, fits, put, Writes}
+use Rattle.text.specs.Text.{endText, put, Writes}
 use Rattle.text.proofs.Laws.{length-put, reports-small, refused-small, end-small}
 use Rattle.listing.specs.Listing.{Feed, answerText, saidOf, lineEnded, feedByte, finished, heldOf, endingOf}
 use Rattle.listing.specs.Parts.{most, Extent, takes, partOf, Parted}

@@ -5,7 +5,6 @@ use lib.Dec.{eqb}
 use Rattle.base.specs.Choice.{if_then_else_}
 use Rattle.base.specs.Numbers.{taken}
 use Rattle.events.specs.declared.Event.{Event}
-use Rattle.reports.specs.declared.Counts.{Counts}
 use Rattle.reports.specs.Counting.{zeroCounts}
 use Rattle.link.specs.Handling.{freshLink}
 use Rattle.link.specs.Stepping.{stepOf}

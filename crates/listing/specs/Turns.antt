@@ -14,7 +14,7 @@ use Rattle.lines.specs.Quick.{rowOf}
 use Rattle.lines.specs.declared.Reading.{Reading}
 use Rattle.lines.specs.declared.Row.{Row}
 use Rattle.text.specs.Text.{Puts}
-use Rattle.listing.specs.Listing.{Feed, stepped, saidOf, finished}
+use Rattle.listing.specs.Listing.{stepped, saidOf, finished}
 use Rattle.listing.specs.Parts.{most, takes}
 use Rattle.listing.specs.declared.Lister.{Lister}
 use Rattle.listing.specs.declared.Part.{Part}

@@ -9,7 +9,7 @@ use native.Mathlib.Omega.{arith}
 use lib.ListN.{length}
 use Rattle.events.specs.declared.Event.{Event}
 use Rattle.drive.specs.declared.Driven.{Driven}
-use Rattle.drive.specs.Drive.{begins, drivenBy, eventAt, drivenTo, digestOf}
+use Rattle.drive.specs.Drive.{drivenBy, eventAt, drivenTo, digestOf}
 use Rattle.drive.proofs.wendrika_drive.Statement.{statement}
 use Rattle.drive.proofs.wendrika_drive.Tie as tie
 

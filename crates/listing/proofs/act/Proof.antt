@@ -1,5 +1,4 @@
 -- A line has ended: its event makes a step. Assumes nothing.
-use native.Mathlib.Omega.{arith}
 use borrow.Author.Needs.{needs}
 use Rattle.listing.proofs.Laws.{acted}
 use Rattle.listing.proofs.act.Statement.{statement}

@@ -1,5 +1,4 @@
 -- The input has ended. Assumes nothing.
-use native.Mathlib.Omega.{arith}
 use borrow.Author.Needs.{needs}
 use Rattle.listing.proofs.Laws.{end-none, end-written}
 use Rattle.listing.proofs.finish.Statement.{statement}

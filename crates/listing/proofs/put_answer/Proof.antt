@@ -1,5 +1,4 @@
 -- An answer's lines. Assumes nothing.
-use native.Mathlib.Omega.{arith}
 use borrow.Author.Needs.{needs}
 use Rattle.listing.proofs.Laws.{answer-reports, answer-refusal}
 use Rattle.listing.proofs.put_answer.Statement.{statement}

@@ -1,5 +1,4 @@
 -- What was got of a line is taken. Assumes nothing.
-use native.Mathlib.Omega.{arith}
 use borrow.Author.Needs.{needs}
 use Rattle.listing.proofs.Laws.{turned-act, turned-cut}
 use Rattle.listing.proofs.take_line.Statement.{statement}
