@@ -1,5 +1,6 @@
 pub mod Logs
 pub mod Refusals
+pub mod Wrong
 pub mod Histories
 pub mod Starts
 pub mod Connecting
