@@ -1,5 +1,5 @@
--- Behind any events from a fresh link with zero counts: the link's clock, mark and numbers told by the events taken, the number of the next event told by
--- them alone, and the answer to it.
+-- Behind any events from a fresh link with zero counts: the link's clock, mark and numbers told by the events taken, the number of the next event
+-- told by them alone, and the answer to it.
 -- Assumes nothing.
 use Prim.Native.Nat.{_≤_}
 use mathlib.Core.Bool.{false}

@@ -65,8 +65,8 @@ quiet-none Quiet n h q g = g
 quiet-none Held n h q g = absurd (false≢true q)
 quiet-none Damage n h q g = absurd (false≢true q)
 
--- ---- A MOVE THAT MAY BE MADE with n bytes named of h heard: one that makes no report leaves a state that holds the same bytes; a report 1 to 5 names
--- them all, and a report 1 or 2 at least one; a report 6, 7 or 8 comes while none is held.
+-- ---- A MOVE THAT MAY BE MADE with n bytes named of h heard: one that makes no report leaves a state that holds the same bytes; a report 1 to 5
+-- names them all, and a report 1 or 2 at least one; a report 6, 7 or 8 comes while none is held.
 abbrev pub goesBy : Bool → Bool → Bool → State → ℕ → ℕ → Type 0
 goesBy true names some st n h = Holds st n h
 goesBy false true true st n h = Holds st h h × (n < h)

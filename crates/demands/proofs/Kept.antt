@@ -1,20 +1,20 @@
 -- What holds behind any events from a fresh link with zero counts: the link's clock, mark and numbers are those of the events taken, its reports name
--- bytes one behind the other, and its counts are those worked out from the reports. So a lent count is never above 4,000,000,000, and an event's number
--- follows from the events taken before it.
+-- bytes one behind the other, and its counts are those worked out from the reports. So a lent count is never above 4,000,000,000, and an event's
+-- number follows from the events taken before it.
 -- Assumes nothing.
 use Prim.Native.Nat.{ℕ, _+_, _≤_, _<_}
-use mathlib.Core.Bool.{Bool, true, false, _||_, false≢true}
+use mathlib.Core.Bool.{Bool, true, false}
 use mathlib.Core.List.{List, [], _∷_, _++_, append-nil}
+use mathlib.Core.Logic.{inl, inr}
 use mathlib.Core.Path.{_≡_, refl, sym, ap, subst, _∙_}
 use native.Mathlib.Omega.{arith}
-use borrow.Author.Tests.{eqb-true, le-ltb, ltb-false, leb-false}
-use lib.Dec.{eqb, leb, ltb}
+use borrow.Author.Tests.{eqb-true}
+use lib.Dec.{eqb, leb}
 use lib.ListN.{length, length-append}
 use Rattle.base.specs.Choice.{if_then_else_}
-use Rattle.base.specs.Numbers.{taken, unknown, tooLate, outOfOrder, tooMany}
-use Rattle.units.specs.Units.{isEarlier}
+use Rattle.base.specs.Numbers.{taken}
 use Rattle.units.specs.declared.Micros.{Micros}
-use Rattle.events.specs.Events.{isByte, marks, isUnknown, isTooLate, isOutOfOrder, refusal}
+use Rattle.events.specs.Events.{isByte, marks}
 use Rattle.events.specs.declared.Event.{Event}
 use Rattle.reports.specs.Reporting.{listed}
 use Rattle.reports.specs.Counting.{zeroCounts, most, isFull, countedEvent}
@@ -28,6 +28,7 @@ use Rattle.link.proofs.Three.{three-enough}
 use Rattle.demands.specs.Logs.{Log, none, _▷_, clockOf, markOf, countOf, heardOf, numberAfter, takenOf}
 use Rattle.demands.specs.Histories.{ourStep, Host, after, reportsOf}
 use Rattle.demands.specs.Accounts.{countsOf, bytesIn, reportsIn}
+use Rattle.demands.proofs.Numbering.{Small, small-full, log-numbered}
 use Rattle.demands.proofs.Holding.{Holds, holds-order}
 use Rattle.demands.proofs.Tiling.{Tiled, end, tiled-append, sum-is, handles}
 use Rattle.demands.proofs.Counting.{tiled-sums, counted-event}
@@ -45,29 +46,7 @@ pub record Kept (h : Host) (log : Log) (xs : List Report) : Type 0 where
   pub holds : Holds (h .link .phase .state) (h .link .named) (h .link .heard)
   pub counts : h .counts ≡ countsOf (heardOf log) xs
 
--- ---- the number of an event
-full-by : (a b c d e f g h : Bool) → b ≡ false → c ≡ false → d ≡ false → e ≡ false → f ≡ false → g ≡ false → h ≡ false
-    → (a || b || c || d || e || f || g || h) ≡ a
-full-by true b c d e f g h kb kc kd ke kf kg kh = refl
-full-by false b c d e f g h kb kc kd ke kf kg kh = rw (kb, kc, kd, ke, kf, kg, kh)
-
--- a count of c is not above 4,000,000,000
-pub record Small (c : Counts) : Type 0 where
-  pub heard : c .heard ≤ most
-  pub framed : c .framed ≤ most
-  pub damaged : c .damaged ≤ most
-  pub started : c .started ≤ most
-  pub outside : c .outside ≤ most
-  pub frames : c .frames ≤ most
-  pub damages : c .damages ≤ most
-
-small-full : (n : ℕ) (c : Counts) → Small c → isFull n c ≡ leb most n
-unfolding isFull
-small-full n c s =
-    full-by (leb most n) (ltb most (c .heard)) (ltb most (c .framed)) (ltb most (c .damaged)) (ltb most (c .started)) (ltb most (c .outside))
-    (ltb most (c .frames)) (ltb most (c .damages)) (le-ltb _ _ (s .heard)) (le-ltb _ _ (s .framed)) (le-ltb _ _ (s .damaged)) (le-ltb _ _ (s .started))
-    (le-ltb _ _ (s .outside)) (le-ltb _ _ (s .frames)) (le-ltb _ _ (s .damages))
-
+-- ---- the number of an event: no count is above 4,000,000,000
 counts-small : (heard : List ℕ) (xs : List Report) (m : ℕ) → Tiled 0 xs m → m ≤ most → length heard ≤ most → Small (countsOf heard xs)
 unfolding countsOf
 counts-small heard xs m t h k =
@@ -96,18 +75,6 @@ unfolding numberOf numberAfter
 number-is h log xs e k = rw (k .clock, not-full h log xs k)
 
 -- ---- an event that is taken
-tests-by : (a b c d : Bool) → (if a then unknown else if b then tooLate else if c then outOfOrder else if d then tooMany else taken) ≡ taken
-    → (c ≡ false) × (d ≡ false)
-tests-by true b c d q = absurd (omega arith)
-tests-by false true c d q = absurd (omega arith)
-tests-by false false true d q = absurd (omega arith)
-tests-by false false false true q = absurd (omega arith)
-tests-by false false false false q = (refl, refl)
-
-or-off : (a b : Bool) → (a || b) ≡ false → (a ≡ false) × (b ≡ false)
-or-off true b e = absurd (false≢true (sym e))
-or-off false b e = (refl, e)
-
 -- it starts no earlier than the clock, and ends no earlier than it starts; fewer than 4,000,000,000 were taken before it
 pub record Timely (log : Log) (e : Event) : Type 0 where
   pub after : clockOf log .0 ≤ e .start .0
@@ -115,15 +82,12 @@ pub record Timely (log : Log) (e : Event) : Type 0 where
   pub room : countOf log < 4_000_000_000
 
 pub timely : (log : Log) (e : Event) → numberAfter log e ≡ taken → Timely log e
-unfolding numberAfter refusal isOutOfOrder
 timely log e q =
-    let t = tests-by (isUnknown e) (isTooLate e) (isOutOfOrder (clockOf log) e) (leb most (countOf log)) q in
-    let o = or-off (isEarlier (e .end) (e .start)) (isEarlier (e .start) (clockOf log)) (t .0) in
-    record {
-      after = ltb-false (e .start .0) (clockOf log .0) (o .1);
-      forward = ltb-false (e .end .0) (e .start .0) (o .0);
-      room = leb-false most (countOf log) (t .1);
-    }
+    let t = log-numbered log e .taken .0 q in
+    let a : e .start .0 < clockOf log .0 → ⊥ = λ p. t .2 (inr p) in
+    let f : e .end .0 < e .start .0 → ⊥ = λ p. t .2 (inl p) in
+    let m : 4_000_000_000 ≤ countOf log → ⊥ = λ p. t .3 (inl p) in
+    record { after = omega arith; forward = omega arith; room = omega arith }
 
 mark-order : (b : Bool) (to mark : Micros) → mark .0 ≤ to .0 → (if b then to else mark) .0 ≤ to .0
 mark-order true to mark h = omega arith

@@ -1,5 +1,5 @@
--- An event's reports name the bytes held one behind the other: each begins where the one before it ended, and the last ends where the link's own index
--- then stands. A report 1 or 2 names at least one byte; a report 6, 7 or 8 names none, and comes while none is held.
+-- An event's reports name the bytes held one behind the other: each begins where the one before it ended, and the last ends where the link's own
+-- index then stands. A report 1 or 2 names at least one byte; a report 6, 7 or 8 names none, and comes while none is held.
 -- Assumes nothing.
 use Prim.Native.Nat.{ℕ, zero, suc, _+_, _-_, _≤_, _<_}
 use mathlib.Core.Bool.{Bool, true, false, _||_, false≢true}
