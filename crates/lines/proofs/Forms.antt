@@ -63,7 +63,7 @@ valueFrom n (b ∷ bs) = valueFrom (n * 10 + (b - 0x30)) bs
 abbrev pub valueOf : List ℕ → ℕ
 valueOf w = valueFrom 0 w
 
--- "the event's letter, then those of side, two hex digits and decimal times that its kind has": A address, W wake-up, B byte, T tick, D drop
+-- "the event's letter, then those of side, two hex digits and decimal times (microseconds) that its kind has": A address, W wake-up, B byte, T tick, D drop
 abbrev pub addressLine : ℕ → List ℕ → List ℕ → List ℕ
 addressLine v t u = (0x41 ∷ []) ␣ hexText v ␣ t ␣ u
 
