@@ -35,7 +35,7 @@ use Rattle.link.specs.Handling.{passed, shut, hearing, byteHeard, actedBy, acte
 use Rattle.link.specs.declared.Link.{Link}
 use Rattle.link.proofs.Three.{tells, passedTells, shutTells, byteTells, actedTells, handledTells, three-enough}
 use Rattle.demands.specs.Histories.{isAmong, Says}
-use Rattle.demands.proofs.Phases.{In, Open, Kept, moved-phase, passed-in, passed-open, byte-starts, start-ends, start-three}
+use Rattle.demands.proofs.Phases.{In, Open, passed-in, passed-open, byte-starts, start-ends, start-three}
 
 -- THE BYTE COMPLETES THE INITIALIZATION THAT THE LINK IS IN
 pub record Completes (l : Link) (e : Event) : Type 0 where
@@ -83,7 +83,7 @@ completes-run l e c =
     ap (λ (x : Run). acted x e (l .mark)) (passed-open b (l .mark) (e .start) (c .was) (c .window))
     ∙ acted-byte b e (l .mark) (c .byte)
     ∙ heard-ends b e (l .mark) (l .phase .start)
-        (byte-starts (l .phase) (e .side) (e .value) (l .mark) (e .start) (c .was) ∙ start-ends (l .phase) (e .side) (e .value) _ (c .right) (c .last))
+    (byte-starts (l .phase) (e .side) (e .value) (l .mark) (e .start) (c .was) ∙ start-ends (l .phase) (e .side) (e .value) _ (c .right) (c .last))
 
 pub completes-says : (l : Link) (e : Event) → Completes l e → Says connectedReport (listed (handled l e .reports))
 unfolding told begun appended listed reportOf isAmong
@@ -157,7 +157,7 @@ No3 rs = isAmong connectedReport rs ≡ false
 none-of : (xs ys : List Report) → No3 xs → No3 ys → No3 (xs ++ ys)
 unfolding isAmong
 none-of [] ys h k = k
-none-of (x ∷ xs) ys h k = 
+none-of (x ∷ xs) ys h k =
     let t = or-off (eqb (x .number) connectedReport) (isAmong connectedReport xs) h in
     rw (t .0) (none-of xs ys (t .1) k)
   where

@@ -32,15 +32,11 @@ use Rattle.reports.specs.declared.Run.{Run}
 use Rattle.link.specs.Handling.{passed, shut}
 use Rattle.link.specs.Quick.{calmIn, isCalm}
 use Rattle.link.proofs.Ways.{passed-calm}
+use Rattle.demands.proofs.Tiling.{moved-phase}
 
 -- an initialization is under way
 abbrev pub In : Phase → Type 0
 In p = isStarting (p .state) ≡ true
-
--- ---- a move leads to its own phase, and one with no report leaves the rest of a run alone
-pub moved-phase : (r : Run) (m : Move) → moved r m .phase ≡ m .phase
-unfolding moved told
-moved-phase r m = by-test (λ (s : Run). s .phase ≡ m .phase) (eqb (m .number) 0) {x = withPhase r (m .phase)} {y = told r m} (λ _. refl) (λ _. refl)
 
 -- ---- the phases that are no initialization
 down-out : In down → ⊥

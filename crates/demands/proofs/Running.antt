@@ -26,7 +26,8 @@ use Rattle.link.specs.Handling.{freshLink, passed, shut, hearing, byteHeard, ac
 use Rattle.link.specs.declared.Link.{Link}
 use Rattle.demands.specs.Logs.{Log, none, _▷_, markOf}
 use Rattle.demands.specs.Connecting.{Since, here, tick, byte}
-use Rattle.demands.proofs.Phases.{In, Open, moved-phase, carried, left-alone, passed-in, passed-open, shut-out, slow-in, slow-starts, fast-in, fast-starts}
+use Rattle.demands.proofs.Tiling.{moved-phase}
+use Rattle.demands.proofs.Phases.{In, Open, carried, left-alone, passed-in, passed-open, shut-out, slow-in, slow-starts, fast-in, fast-starts}
 use Rattle.demands.proofs.Phases.{start-goes, start-in, byte-in, byte-starts, stop-in}
 use Rattle.demands.proofs.Completing.{Completes, acted-slow, acted-fast, acted-byte, acted-tick, acted-drop}
 
@@ -150,8 +151,8 @@ pub record Inv (l : Link) (log : Log) : Type 0 where
   pub back : (a : Event) (before bs : Log) → Since a before log bs → Runs (markOf before) a bs → Open (phaseOn a bs) (lastEnd a bs) (l .clock)
       → l .phase ≡ phaseOn a bs
 
--- the link's mark is its log's, and the event comes behind its clock
-pub record Timely (l : Link) (log : Log) (e : Event) : Type 0 where
+-- the link's mark is its log's, and the event, of a known kind, comes behind its clock
+pub record Behind (l : Link) (log : Log) (e : Event) : Type 0 where
   pub mark : l .mark ≡ markOf log
   pub order : l .mark .0 ≤ l .clock .0
   pub later : l .clock .0 ≤ e .start .0
@@ -202,7 +203,7 @@ pub heard-goes : (r : Run) (e : Event) (mark fall : Micros) (s : Start) → afte
 unfolding byteHeard moved afterStop starting isQuiet
 heard-goes r e mark fall s h = rw h refl
 
-module _ (l : Link) (log : Log) (e : Event) (t : Timely l log e) (inv : Inv l log) where
+module _ (l : Link) (log : Log) (e : Event) (t : Behind l log e) (inv : Inv l log) where
   abbrev r : Run
   r = passed (begun l e) (l .mark) (e .start)
 
@@ -340,13 +341,13 @@ module _ (l : Link) (log : Log) (e : Event) (t : Timely l log e) (inv : Inv l lo
       let gap = sinceOrigin (l .phase) (l .mark) (e .start) in
       let moves = byte-starts (l .phase) (e .side) (e .value) (l .mark) (e .start) (w .was)
       ∙ start-goes (l .phase) (e .side) (e .value) gap (judged-same (l .phase) (l .mark) a bs e (w .phase) (w .mark) ∙ u .1 .right)
-          (last-same (l .phase) (l .mark) a bs e (w .phase) (w .mark) ∙ u .2) in
+      (last-same (l .phase) (l .mark) a bs e (w .phase) (w .mark) ∙ u .2) in
       ap (λ (x : Run). x .phase)
       (handled-is _ (acted-byte r e (l .mark) k) ∙ ap (λ (x : Run). byteHeard x e (l .mark)) (passed-same (w .was) (w .window))
       ∙ heard-goes (begun l e) e (l .mark) (l .phase .fall) (onward (l .phase .start) (e .value)) moves)
       ∙ next-same (l .phase) (l .mark) a bs e (w .phase) (w .mark)
 
-pub back-by : (l : Link) (log : Log) (e : Event) → Timely l log e → Inv l log → (a : Event) (before bs : Log) → Since a before (log ▷ e) bs
+pub back-by : (l : Link) (log : Log) (e : Event) → Behind l log e → Inv l log → (a : Event) (before bs : Log) → Since a before (log ▷ e) bs
     → Runs (markOf before) a bs → Open (phaseOn a bs) (lastEnd a bs) (e .end) → handled l e .phase ≡ phaseOn a bs
 back-by l log e t inv a before bs here u o = back-here l log e t inv (e .kind) refl u u
 back-by l log e t inv a before bs (tick k s) u o =
@@ -354,7 +355,7 @@ back-by l log e t inv a before bs (tick k s) u o =
 back-by l log e t inv a before (bs ▷ b) (byte k s) u o = back-byte l log e t inv a before bs k s u
 
 -- ---- an event that is taken keeps it
-pub inv-on : (l : Link) (log : Log) (e : Event) → Timely l log e → Inv l log → Inv (linkAfter l e (handled l e)) (log ▷ e)
+pub inv-on : (l : Link) (log : Log) (e : Event) → Behind l log e → Inv l log → Inv (linkAfter l e (handled l e)) (log ▷ e)
 unfolding linkAfter
 inv-on l log e t inv = record { forth = forth-by l log e t inv (e .kind) refl; back = back-by l log e t inv }
 
@@ -374,7 +375,7 @@ pub record Ends (log : Log) (e : Event) : Type 0 where
   pub done : Done (markOf before) start bytes e
   pub last : e .kind ≡ Byte
 
-pub ends-of : (l : Link) (log : Log) (e : Event) → Timely l log e → Inv l log → Completes l e → Ends log e
+pub ends-of : (l : Link) (log : Log) (e : Event) → Behind l log e → Inv l log → Completes l e → Ends log e
 ends-of l log e t inv c =
     let g = inv .forth (c .was) in
     let m = on-mark l log e t inv g in
@@ -396,7 +397,7 @@ ends-of l log e t inv c =
     }
 
 -- the other way round, and the link is then at what the bytes lead to
-pub completes-of : (l : Link) (log : Log) (e : Event) → Timely l log e → Inv l log → (x : Ends log e)
+pub completes-of : (l : Link) (log : Log) (e : Event) → Behind l log e → Inv l log → (x : Ends log e)
     → Completes l e × (l .phase ≡ phaseOn (x .start) (x .bytes))
 completes-of l log e t inv x =
     let d = x .done in
