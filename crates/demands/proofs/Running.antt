@@ -293,20 +293,21 @@ module _ (l : Link) (log : Log) (e : Event) (t : Behind l log e) (inv : Inv l lo
   forth-by Drop k i = absurd (shut-out r dropped (carried _ _ (ap (λ (x : Run). x .phase) (handled-is _ (acted-drop r e (l .mark) k))) i))
   forth-by Other k i = absurd (t .known k)
 
-  -- ---- and back
-  back-start : handled l e ≡ moved (shut r restarted) (startMove (e .kind) e (l .mark)) → Starts (e .kind) (markOf log) e
-      → handled l e .phase ≡ phaseOn e none
-  back-start h s =
-      ap (λ (x : Run). x .phase) h ∙ moved-phase (shut r restarted) (startMove (e .kind) e (l .mark))
-      ∙ move-on e (l .mark) (subst (λ (m : Micros). Starts (e .kind) m e) (sym (t .mark)) s)
+  -- ---- and back: what the event makes of the run
+  start-acts : (k : Kind) → e .kind ≡ k → Starts k (markOf log) e → handled l e ≡ moved (shut r restarted) (startMove (e .kind) e (l .mark))
+  start-acts Address k s = slow-acts k
+  start-acts WakeUp k s = fast-acts k
+  start-acts Byte k s = absurd s
+  start-acts Tick k s = absurd s
+  start-acts Drop k s = absurd s
+  start-acts Other k s = absurd s
 
-  back-here : (k : Kind) → e .kind ≡ k → Starts k (markOf log) e → Starts (e .kind) (markOf log) e → handled l e .phase ≡ phaseOn e none
-  back-here Address k z s = back-start (slow-acts k) s
-  back-here WakeUp k z s = back-start (fast-acts k) s
-  back-here Byte k z s = absurd z
-  back-here Tick k z s = absurd z
-  back-here Drop k z s = absurd z
-  back-here Other k z s = absurd z
+  -- a good start
+  pub back-start : Starts (e .kind) (markOf log) e → handled l e ≡ withPhase (shut r restarted) (phaseOn e none)
+  unfolding moved startOn
+  back-start s =
+      let z = subst (λ (m : Micros). Starts (e .kind) m e) (sym (t .mark)) s in
+      start-acts (e .kind) refl s ∙ ap (moved (shut r restarted)) (move-starts (e .kind) e (l .mark) z)
 
   -- with its window open at the event's start, the link is at what the log leads to
   pub record At (a : Event) (bs : Log) : Type 0 where
@@ -326,33 +327,34 @@ module _ (l : Link) (log : Log) (e : Event) (t : Behind l log e) (inv : Inv l lo
         window = over-same (l .phase) (l .mark) a bs e p m ∙ o;
       }
 
-  back-tick : (a : Event) (before bs : Log) → e .kind ≡ Tick → Since a before log bs → Runs (markOf before) a bs
-      → Open (phaseOn a bs) (lastEnd a bs) (e .start) → handled l e .phase ≡ phaseOn a bs
-  unfolding begun
-  back-tick a before bs k s u o =
-      let w = back-open a before bs s u o in
-      ap (λ (x : Run). x .phase) (handled-is _ (acted-tick r e (l .mark) k) ∙ passed-same (w .was) (w .window)) ∙ w .phase
+  -- a tick
+  pub back-tick : {a : Event} {bs : Log} → At a bs → e .kind ≡ Tick → handled l e ≡ begun l e
+  back-tick w k = handled-is _ (acted-tick r e (l .mark) k) ∙ passed-same (w .was) (w .window)
 
-  back-byte : (a : Event) (before bs : Log) → e .kind ≡ Byte → Since a before log bs → Runs (markOf before) a (bs ▷ e)
-      → handled l e .phase ≡ phaseOn a (bs ▷ e)
+  -- a byte that is right and not the last
+  pub back-byte : (a : Event) (bs : Log) → At a bs → e .kind ≡ Byte → Hears a bs e → Last a bs ≡ false
+      → handled l e ≡ withPhase (hearing (begun l e)) (phaseOn a (bs ▷ e))
   unfolding begun
-  back-byte a before bs k s u =
-      let w = back-open a before bs s (u .0) (u .1 .window) in
+  back-byte a bs w k h z =
       let gap = sinceOrigin (l .phase) (l .mark) (e .start) in
-      let moves = byte-starts (l .phase) (e .side) (e .value) (l .mark) (e .start) (w .was)
-      ∙ start-goes (l .phase) (e .side) (e .value) gap (judged-same (l .phase) (l .mark) a bs e (w .phase) (w .mark) ∙ u .1 .right)
-      (last-same (l .phase) (l .mark) a bs e (w .phase) (w .mark) ∙ u .2) in
-      ap (λ (x : Run). x .phase)
-      (handled-is _ (acted-byte r e (l .mark) k) ∙ ap (λ (x : Run). byteHeard x e (l .mark)) (passed-same (w .was) (w .window))
-      ∙ heard-goes (begun l e) e (l .mark) (l .phase .fall) (onward (l .phase .start) (e .value)) moves)
-      ∙ next-same (l .phase) (l .mark) a bs e (w .phase) (w .mark)
+      let right = judged-same (l .phase) (l .mark) a bs e (w .phase) (w .mark) ∙ h .right in
+      let more = last-same (l .phase) (l .mark) a bs e (w .phase) (w .mark) ∙ z in
+      let moves =
+      byte-starts (l .phase) (e .side) (e .value) (l .mark) (e .start) (w .was) ∙ start-goes (l .phase) (e .side) (e .value) gap right more in
+      handled-is _ (acted-byte r e (l .mark) k) ∙ ap (λ (x : Run). byteHeard x e (l .mark)) (passed-same (w .was) (w .window))
+      ∙ heard-goes (begun l e) e (l .mark) (l .phase .fall) (onward (l .phase .start) (e .value)) moves
+      ∙ ap (withPhase (hearing (begun l e))) (next-same (l .phase) (l .mark) a bs e (w .phase) (w .mark))
 
-pub back-by : (l : Link) (log : Log) (e : Event) → Behind l log e → Inv l log → (a : Event) (before bs : Log) → Since a before (log ▷ e) bs
+back-by : (l : Link) (log : Log) (e : Event) → Behind l log e → Inv l log → (a : Event) (before bs : Log) → Since a before (log ▷ e) bs
     → Runs (markOf before) a bs → Open (phaseOn a bs) (lastEnd a bs) (e .end) → handled l e .phase ≡ phaseOn a bs
-back-by l log e t inv a before bs here u o = back-here l log e t inv (e .kind) refl u u
+unfolding begun
+back-by l log e t inv a before bs here u o = ap (λ (x : Run). x .phase) (back-start l log e t inv u)
 back-by l log e t inv a before bs (tick k s) u o =
-    back-tick l log e t inv a before bs k s u (open-early (phaseOn a bs) (lastEnd a bs) (e .start) (e .end) (t .ordered) o)
-back-by l log e t inv a before (bs ▷ b) (byte k s) u o = back-byte l log e t inv a before bs k s u
+    let w = back-open l log e t inv a before bs s u (open-early (phaseOn a bs) (lastEnd a bs) (e .start) (e .end) (t .ordered) o) in
+    ap (λ (x : Run). x .phase) (back-tick l log e t inv w k) ∙ w .phase
+back-by l log e t inv a before (bs ▷ b) (byte k s) u o =
+    let w = back-open l log e t inv a before bs s (u .0) (u .1 .window) in
+    ap (λ (x : Run). x .phase) (back-byte l log e t inv a bs w k (u .1) (u .2))
 
 -- ---- an event that is taken keeps it
 pub inv-on : (l : Link) (log : Log) (e : Event) → Behind l log e → Inv l log → Inv (linkAfter l e (handled l e)) (log ▷ e)
