@@ -101,7 +101,8 @@ heard-more true v heard n e h = sum-is n 1 (omega arith) ∙ omega (arith, lengt
 heard-more false v heard n e h = sum-is n 0 (omega arith) ∙ omega (arith, length-append heard [])
 
 pub counted-event : (c : Counts) (heard : List ℕ) (xs : List Report) (b : Bool) (v : ℕ) (rs : Reports) (m : ℕ) → c ≡ countsOf heard xs
-    → Tiled 0 (xs ++ listed rs) m → m ≤ greatest → length heard < greatest → countedEvent c b rs ≡ countsOf (heard ++ (if b then v ∷ [] else [])) (xs ++ listed rs)
+    → Tiled 0 (xs ++ listed rs) m → m ≤ greatest → length heard < greatest
+    → countedEvent c b rs ≡ countsOf (heard ++ (if b then v ∷ [] else [])) (xs ++ listed rs)
 unfolding countsOf countedOne countedByte bytesIn reportsIn countedEvent
 counted-event c heard xs b v rs m e t h k =
     let s = tiled-sums t in

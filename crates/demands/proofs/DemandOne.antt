@@ -71,7 +71,8 @@ history-numbers es e = basics.numbers-by-history es e
 -- the counts can be left out, ..
 pub history-numbered : (es : Log) (e : Event)
     → Numbered (clockOf (takenOf es)) (countOf (takenOf es)) zeroCounts e (answerTo ourStep es e .no)
-history-numbered es e = subst (Numbered (clockOf (takenOf es)) (countOf (takenOf es)) zeroCounts e) (sym (history-numbers es e)) (log-numbered (takenOf es) e)
+history-numbered es e =
+    subst (Numbered (clockOf (takenOf es)) (countOf (takenOf es)) zeroCounts e) (sym (history-numbers es e)) (log-numbered (takenOf es) e)
 
 -- .. since none of them ever comes to be above 4,000,000,000.
 pub never-above : (es : Log) → Not (Above (after ourStep es .counts))

@@ -17,12 +17,14 @@ use Rattle.events.specs.declared.Side.{Side}
 use Rattle.starts.specs.Starts.{judged, isOver, isLast}
 use Rattle.starts.specs.declared.Start.{Start}
 use Rattle.talk.specs.Talk.{isFirst, laterReason, isSum, isStopped}
-use Rattle.phases.specs.Phases.{isStarting, isQuiet, isOpen, down, starting, connected, talking, holding, damaged, settled, timed, asked, answered, framed}
+use Rattle.phases.specs.Phases.{isStarting, isQuiet, isOpen, down, starting, connected}
+use Rattle.phases.specs.Phases.{talking, holding, damaged, settled, timed, asked, answered, framed}
 use Rattle.phases.specs.declared.State.{State}
 use Rattle.phases.specs.declared.State.the-variants.{Down, Starting, Quiet, Held, Damage}
 use Rattle.phases.specs.declared.Phase.{Phase}
 use Rattle.moves.specs.Moves.{makes, isSilent, lossReason, afterSilence, afterP2, afterP3, sinceOrigin, afterWindow, closing, leaving}
-use Rattle.moves.specs.Moves.{isIdle, startingSlow, isGoodLow, startingFast, startByte, reasonAtFirst, firstByte, laterByte, byteIn, afterByte, afterStop}
+use Rattle.moves.specs.Moves.{isIdle, startingSlow, isGoodLow, startingFast}
+use Rattle.moves.specs.Moves.{startByte, reasonAtFirst, firstByte, laterByte, byteIn, afterByte, afterStop}
 use Rattle.moves.specs.declared.Move.{Move}
 use Rattle.reports.specs.Reporting.{namesBytes}
 
@@ -131,7 +133,8 @@ module _ (n h : ℕ) where
   unfolding afterP3
   p3-goes p gap g =
       by-test (Goes n h) (isQuiet (p .state) && not (isFirst (p .reply)) && isPassed (p .windows .p3max) gap)
-      (λ t. left-goes n h idleOver (quiet-none (p .state) n h (and-split (isQuiet (p .state)) (not (isFirst (p .reply))) (and-split _ _ t .0) .0) g)) (λ _. g)
+      (λ t. left-goes n h idleOver (quiet-none (p .state) n h (and-split (isQuiet (p .state)) (not (isFirst (p .reply))) (and-split _ _ t .0) .0) g))
+      (λ _. g)
 
   pub window-goes : (p : Phase) (mark time : Micros) → Holds (p .state) n h → Goes n h (afterWindow p mark time)
   unfolding afterWindow
@@ -181,7 +184,8 @@ module _ (n h : ℕ) where
   damage-holds : (st : State) → st ≡ Damage → n < h → Holds st n (h + 1)
   damage-holds st e g = rw e (omega arith)
 
-  byte-in : (st : State) (p : Phase) (side : Side) (v : ℕ) (mark start : Micros) → p .state ≡ st → Holds st n h → Goes n (h + 1) (byteIn st p side v mark start)
+  byte-in : (st : State) (p : Phase) (side : Side) (v : ℕ) (mark start : Micros) → p .state ≡ st → Holds st n h
+      → Goes n (h + 1) (byteIn st p side v mark start)
   unfolding down namesBytes
   byte-in Down p side v mark start e g = refl
   byte-in Starting p side v mark start e g = start-goes p side v (sinceOrigin p mark start) g

@@ -107,7 +107,10 @@ few-more false v n heard e = omega (arith, length-append heard [])
 
 -- the host after it, and its reports
 abbrev takenHost : Host → Event → Host
-takenHost h e = record { link = linkAfter (h .link) e (handled (h .link) e); counts = countedEvent (h .counts) (isByte (e .kind)) (handled (h .link) e .reports) }
+takenHost h e = record {
+  link = linkAfter (h .link) e (handled (h .link) e);
+  counts = countedEvent (h .counts) (isByte (e .kind)) (handled (h .link) e .reports);
+}
 
 kept-taken : (h : Host) (log : Log) (xs : List Report) (e : Event) → Kept h log xs → numberAfter log e ≡ taken
     → Kept (takenHost h e) (log ▷ e) (xs ++ listed (handled (h .link) e .reports))

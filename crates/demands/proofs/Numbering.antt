@@ -222,4 +222,5 @@ small-full events c s = one-test (isFull events c) (leb most events) (decides-fu
 -- 1 to 4 behind events taken
 pub log-numbered : (log : Log) (e : Event) → Numbered (clockOf log) (countOf log) zeroCounts e (numberAfter log e)
 unfolding numberAfter
-log-numbered log e = refusal-numbered (clockOf log) (countOf log) zeroCounts e (leb most (countOf log)) (decides-most (countOf log) zeroCounts zero-small)
+log-numbered log e =
+    refusal-numbered (clockOf log) (countOf log) zeroCounts e (leb most (countOf log)) (decides-most (countOf log) zeroCounts zero-small)

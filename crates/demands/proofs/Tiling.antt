@@ -30,7 +30,8 @@ use Rattle.link.specs.Handling.{passed, shut, hearing, byteHeard, actedBy, acte
 use Rattle.link.specs.declared.Link.{Link}
 use Rattle.link.proofs.Three.{tells, passedTells, shutTells, byteTells, actedTells, handledTells}
 use Rattle.demands.proofs.Holding.{Holds, holds-order, holds-none, goesBy, ofSome, Goes, Idle, closing-idle, leaving-idle}
-use Rattle.demands.proofs.Holding.{silence-goes, p2-goes, p3-goes, window-goes, closing-goes, leaving-goes, slow-goes, fast-goes, byte-goes, stop-goes}
+use Rattle.demands.proofs.Holding.{silence-goes, p2-goes, p3-goes, window-goes, closing-goes, leaving-goes}
+use Rattle.demands.proofs.Holding.{slow-goes, fast-goes, byte-goes, stop-goes}
 
 -- ---- reports one behind the other
 -- a report's bytes are in one of the four counts of bytes, and a report 1 or 2 names at least one
@@ -82,13 +83,15 @@ module _ (r : Run) (number reason : ℕ) where
   some-names : ofSome number ≡ true → namesBytes number ≡ true
   unfolding namesBytes
   some-names s =
-      ⊎-elim (λ e. le-leb number 5 (omega (arith, eqb-true number frameReport e))) (λ e. le-leb number 5 (omega (arith, eqb-true number damageReport e)))
+      ⊎-elim (λ e. le-leb number 5 (omega (arith, eqb-true number frameReport e)))
+      (λ e. le-leb number 5 (omega (arith, eqb-true number damageReport e)))
       (or-split (eqb number frameReport) (eqb number damageReport) s)
 
   report-fair : eqb number 0 ≡ false → (ofSome number ≡ true → r .named < r .heard) → Fair (reportOf r number reason)
   unfolding reportOf
   report-fair z s =
-      fair-at number (reportOf r number reason .first) (reportOf r number reason .bytes) reason (r .time) z (λ t. bytes-some (some-names t) (s t)) bytes-none
+      fair-at number (reportOf r number reason .first) (reportOf r number reason .bytes) reason (r .time) z
+      (λ t. bytes-some (some-names t) (s t)) bytes-none
 
 -- ---- a run comes of another, with these reports
 pub record Flows (r s : Run) (xs : List Report) : Type 0 where
