@@ -34,7 +34,7 @@ use Rattle.demands.proofs.Slowly.{slow-done, done-slow}
 use Rattle.demands.proofs.Fastly.{fast-done, done-fast}
 
 -- ---- an initialization that ends on the log is a good one, and the other way round
-runs-starts : (m : Micros) (a : Event) (bs : Log) → Runs m a bs → Starts (a .kind) m a
+pub runs-starts : (m : Micros) (a : Event) (bs : Log) → Runs m a bs → Starts (a .kind) m a
 runs-starts m a none r = r
 runs-starts m a (bs ▷ b) r = runs-starts m a bs (r .0)
 
@@ -83,7 +83,7 @@ pub done-of : (m : Micros) (a : Event) (kb1 kb2 : ℕ) (bs : Log) (e : Event) �
 done-of m a kb1 kb2 bs e i (inl s) = done-slow m a kb1 kb2 bs e i s
 done-of m a kb1 kb2 bs e i (inr s) = done-fast m a kb1 kb2 bs e i s
 
-pub ended-by : (log : Log) (e : Event) → Connects log e → Ends log e
+abbrev pub ended-by : (log : Log) (e : Event) → Connects log e → Ends log e
 ended-by log e c = record {
   start = c .start;
   before = c .before;
