@@ -4,7 +4,7 @@
 use Prim.Native.Nat.{ℕ, _+_, _≤_}
 use mathlib.Core.List.{[], _∷_}
 use mathlib.Core.Logic.{inl, inr}
-use mathlib.Core.Path.{_≡_, _∙_, refl, sym, subst}
+use mathlib.Core.Path.{_≡_, refl}
 use native.Mathlib.Omega.{arith}
 use Rattle.base.specs.Numbers.{taken}
 use Rattle.base.specs.Reports.{connectedReport, noReason}
@@ -18,8 +18,8 @@ use Rattle.events.specs.declared.Event.{Event}
 use Rattle.demands.specs.Logs.{Log, none, _▷_, clockOf, markOf, countOf, heardOf, numberAfter, takenOf}
 use Rattle.demands.specs.Histories.{ourStep, reportsTo}
 use Rattle.demands.specs.Starts.{SlowStart, slow, request, addressed, FastStart, fast}
-use Rattle.demands.specs.Connecting.{Since, here, byte, Connects}
-use Rattle.demands.proofs.Names.{Connected, connects-names}
+use Rattle.demands.specs.Connecting.{here, byte, Connects}
+use Rattle.demands.proofs.Names.{connects-names}
 
 -- a byte of 960 microseconds
 abbrev pub byteFrom : Side → ℕ → ℕ → Event

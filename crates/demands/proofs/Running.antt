@@ -6,9 +6,8 @@ use mathlib.Core.Bool.{Bool, true, false, false≢true}
 use mathlib.Core.Path.{_≡_, _∙_, refl, sym, ap, ap₂, subst}
 use native.Mathlib.Omega.{arith}
 use borrow.Author.Tests.{ltb-false, le-ltb}
-use Rattle.base.specs.Choice.{if_then_else_}
 use Rattle.base.specs.Reports.{noReason, dropped, restarted}
-use Rattle.units.specs.Units.{micros, gapOf}
+use Rattle.units.specs.Units.{micros}
 use Rattle.units.specs.declared.Micros.{Micros}
 use Rattle.events.specs.Events.{marks}
 use Rattle.events.specs.declared.Kind.{Kind}
@@ -75,16 +74,16 @@ pub record Hears (a : Event) (bs : Log) (b : Event) : Type 0 where
   pub window : Open (phaseOn a bs) (lastEnd a bs) (b .start)
   pub right : judged (phaseOn a bs .start) (b .side) (b .value) (sinceOrigin (phaseOn a bs) (lastEnd a bs) (b .start)) ≡ noReason
 
-abbrev pub Last : Event → Log → Bool
-Last a bs = isLast (phaseOn a bs .start .stage)
+abbrev pub isLastOn : Event → Log → Bool
+isLastOn a bs = isLast (phaseOn a bs .start .stage)
 
 abbrev pub Runs : Micros → Event → Log → Type 0
 Runs m a none = Starts (a .kind) m a
-Runs m a (bs ▷ b) = Runs m a bs × Hears a bs b × (Last a bs ≡ false)
+Runs m a (bs ▷ b) = Runs m a bs × Hears a bs b × (isLastOn a bs ≡ false)
 
 -- and one that completes it
 abbrev pub Done : Micros → Event → Log → Event → Type 0
-Done m a bs b = Runs m a bs × Hears a bs b × (Last a bs ≡ true)
+Done m a bs b = Runs m a bs × Hears a bs b × (isLastOn a bs ≡ true)
 
 starts-mark : (k : Kind) (m : Micros) (a : Event) → Starts k m a → marks k ≡ true
 unfolding marks
@@ -128,7 +127,7 @@ module _ (p : Phase) (mark : Micros) (a : Event) (bs : Log) (b : Event) (at : p 
       ≡ judged (phaseOn a bs .start) (b .side) (b .value) (sinceOrigin (phaseOn a bs) (lastEnd a bs) (b .start))
   judged-same = ap₂ (λ (x : Phase) (y : Micros). judged (x .start) (b .side) (b .value) (sinceOrigin x y (b .start))) at end
 
-  pub last-same : isLast (p .start .stage) ≡ Last a bs
+  pub last-same : isLast (p .start .stage) ≡ isLastOn a bs
   last-same = ap (λ (x : Phase). isLast (x .start .stage)) at
 
   -- one byte more
@@ -332,7 +331,7 @@ module _ (l : Link) (log : Log) (e : Event) (t : Behind l log e) (inv : Inv l lo
   back-tick w k = handled-is _ (acted-tick r e (l .mark) k) ∙ passed-same (w .was) (w .window)
 
   -- a byte that is right and not the last
-  pub back-byte : (a : Event) (bs : Log) → At a bs → e .kind ≡ Byte → Hears a bs e → Last a bs ≡ false
+  pub back-byte : (a : Event) (bs : Log) → At a bs → e .kind ≡ Byte → Hears a bs e → isLastOn a bs ≡ false
       → handled l e ≡ withPhase (hearing (begun l e)) (phaseOn a (bs ▷ e))
   unfolding begun
   back-byte a bs w k h z =
@@ -361,7 +360,7 @@ pub inv-on : (l : Link) (log : Log) (e : Event) → Behind l log e → Inv l log
 unfolding linkAfter
 inv-on l log e t inv = record { forth = forth-by l log e t inv (e .kind) refl; back = back-by l log e t inv }
 
-no-since : (a : Event) (before bs : Log) → Since a before none bs → ⊥
+pub no-since : (a : Event) (before bs : Log) → Since a before none bs → ⊥
 no-since a before bs s = elim s [ ]
 
 pub inv-fresh : Inv freshLink none

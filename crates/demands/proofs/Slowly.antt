@@ -1,7 +1,7 @@
 -- The slow start: a byte completes a run from an address exactly if the address and its bytes are a good slow start with the run's key bytes.
 -- Assumes nothing.
 use Prim.Native.Nat.{ℕ, _+_, _-_, _≤_}
-use mathlib.Core.Bool.{Bool, true, false, not, false≢true}
+use mathlib.Core.Bool.{true, false, not, false≢true}
 use mathlib.Core.Path.{_≡_, _∙_, refl, sym, ap, ap₂, subst}
 use native.Mathlib.Omega.{arith}
 use lib.Dec.{ltb}
@@ -18,7 +18,7 @@ use Rattle.starts.specs.declared.Stage.the-variants.{Sync as AtSync, FirstKey a
 use Rattle.starts.specs.declared.Start.{Start}
 use Rattle.moves.specs.Moves.{isIdle}
 use Rattle.demands.specs.Logs.{Log, none, _▷_}
-use Rattle.demands.specs.Starts.{Sync, KeyOne, KeyTwo, KeyBack, AddressBack, SlowStart, slow}
+use Rattle.demands.specs.Starts.{Sync, KeyOne, KeyTwo, KeyBack, SlowStart, slow}
 use Rattle.demands.proofs.Running.{firstBy, fallBy, startOn, lastEnd, Starts, Runs, Done}
 use Rattle.demands.proofs.Judging.{Fits, Comes, comes, On, on-next, on-last, done-good}
 
