@@ -140,13 +140,13 @@ module _ (r : Run) (m : Move) where
   moved-phase = by-test (λ (s : Run). s .phase ≡ m .phase) (eqb (m .number) 0) (λ _. refl) (λ _. refl)
 
 -- ---- time passes, what is open is closed, the event acts
-abbrev HoldsIn : Run → Type 0
+abbrev pub HoldsIn : Run → Type 0
 HoldsIn r = Holds (r .phase .state) (r .named) (r .heard)
 
 order : (r : Run) → HoldsIn r → r .named ≤ r .heard
 order r g = holds-order (r .phase .state) (r .named) (r .heard) g
 
-passed-flows : (r : Run) (mark start : Micros) → HoldsIn r → Flows r (passed r mark start) (passedTells r mark start)
+pub passed-flows : (r : Run) (mark start : Micros) → HoldsIn r → Flows r (passed r mark start) (passedTells r mark start)
 unfolding passed passedTells
 passed-flows r mark start g =
     let gap = gapOf mark start in
@@ -183,7 +183,7 @@ shut-idle r reason =
     rw (moved-phase r1 (leaving (r1 .phase) reason)) (leaving-idle (r1 .phase) reason i)
 
 -- behind what closes, no byte is held
-shut-none : (r : Run) (reason : ℕ) → HoldsIn r → shut r reason .named ≡ shut r reason .heard
+pub shut-none : (r : Run) (reason : ℕ) → HoldsIn r → shut r reason .named ≡ shut r reason .heard
 shut-none r reason g =
     let i = shut-idle r reason in
     holds-none (shut r reason .phase .state) _ _ (i .shut) (i .apart) (shut-flows r reason g .holds)

@@ -1,0 +1,171 @@
+-- DEMAND 2: behind any events from a fresh link, an event is answered with report 3 exactly if it is taken and completes a good initialization: a
+-- condition on the events taken before it, and on no link.
+-- Assumes nothing.
+use Prim.Native.Nat.{ℕ, _+_, _≤_}
+use mathlib.Core.Bool.{Bool, true, false, false≢true}
+use mathlib.Core.Logic.{_↔_, _⊎_, inl, inr}
+use mathlib.Core.Path.{_≡_, _∙_, refl, sym, ap, ap₂}
+use native.Mathlib.Omega.{arith}
+use lib.Dec.{eqb}
+use borrow.Author.Tests.{eqb-true, eqb-false, eq-eqb}
+use Rattle.base.specs.Choice.{if_then_else_}
+use Rattle.base.specs.Numbers.{taken}
+use Rattle.base.specs.Reports.{connectedReport}
+use Rattle.units.specs.declared.Micros.{Micros}
+use Rattle.keys.specs.Keys.{goodPair}
+use Rattle.events.specs.declared.Kind.{Kind}
+use Rattle.events.specs.declared.Kind.the-variants.{Address, WakeUp, Byte, Tick, Drop, Other}
+use Rattle.events.specs.declared.Event.{Event}
+use Rattle.reports.specs.Reporting.{listed}
+use Rattle.link.specs.Handling.{freshLink, handled, linkAfter}
+use Rattle.link.specs.Stepping.{refusedBy, takenBy}
+use Rattle.link.specs.declared.Link.{Link}
+use Rattle.link.specs.declared.Answer.{Answer}
+use Rattle.demands.specs.Logs.{Log, none, _▷_, markOf, numberAfter, takenOf}
+use Rattle.demands.specs.Histories.{ourStep, after, answerTo, reportsTo, isAmong, Says}
+use Rattle.demands.specs.Starts.{SlowStart, FastStart}
+use Rattle.demands.specs.Connecting.{Since, Connects}
+use Rattle.demands.proofs.Numbering.{log-numbered}
+use Rattle.demands.proofs.Kept.{timely}
+use Rattle.demands.proofs.Basics.{basics, answer-taken, answer-refused}
+use Rattle.demands.proofs.Completing.{Completes, says-completes, completes-says}
+use Rattle.demands.proofs.Running.{startOn, Starts, Runs, Done, Behind, Inv, inv-on, inv-fresh, Ends, ends-of, completes-of}
+use Rattle.demands.proofs.Slowly.{slow-done, done-slow}
+use Rattle.demands.proofs.Fastly.{fast-done, done-fast}
+
+-- ---- an initialization that ends on the log is a good one, and the other way round
+pub runs-starts : (m : Micros) (a : Event) (bs : Log) → Runs m a bs → Starts (a .kind) m a
+runs-starts m a none r = r
+runs-starts m a (bs ▷ b) r = runs-starts m a bs (r .0)
+
+module _ (log : Log) (e : Event) (x : Ends log e) where
+  abbrev m : Micros
+  m = markOf (x .before)
+
+  connects-by : (k : Kind) → x .start .kind ≡ k → Starts k m (x .start) → Connects log e
+  connects-by Address k s =
+      let w = slow-done m (x .start) (x .bytes) e k (x .done) in
+      record {
+        start = x .start;
+        before = x .before;
+        bytes = x .bytes;
+        kb1 = startOn (x .start) (x .bytes) .kb1;
+        kb2 = startOn (x .start) (x .bytes) .kb2;
+        since = x .since;
+        idle = w .0;
+        last = x .last;
+        good = inl (w .1);
+      }
+  connects-by WakeUp k s =
+      let w = fast-done m (x .start) (x .bytes) e k (x .done) in
+      record {
+        start = x .start;
+        before = x .before;
+        bytes = x .bytes;
+        kb1 = startOn (x .start) (x .bytes) .kb1;
+        kb2 = startOn (x .start) (x .bytes) .kb2;
+        since = x .since;
+        idle = w .0;
+        last = x .last;
+        good = inr (w .1);
+      }
+  connects-by Byte k s = absurd s
+  connects-by Tick k s = absurd s
+  connects-by Drop k s = absurd s
+  connects-by Other k s = absurd s
+
+  connects-of : Connects log e
+  connects-of = connects-by (x .start .kind) refl (runs-starts m (x .start) (x .bytes) (x .done .0))
+
+pub done-of : (m : Micros) (a : Event) (kb1 kb2 : ℕ) (bs : Log) (e : Event) → m .0 + 300_000 ≤ a .start .0
+    → SlowStart a kb1 kb2 (bs ▷ e) ⊎ FastStart a kb1 kb2 (bs ▷ e)
+    → Done m a bs e × (startOn a bs .kb1 ≡ kb1) × (startOn a bs .kb2 ≡ kb2) × (goodPair kb1 kb2 ≡ true)
+done-of m a kb1 kb2 bs e i (inl s) = done-slow m a kb1 kb2 bs e i s
+done-of m a kb1 kb2 bs e i (inr s) = done-fast m a kb1 kb2 bs e i s
+
+abbrev pub ended-by : (log : Log) (e : Event) → Connects log e → Ends log e
+ended-by log e c = record {
+  start = c .start;
+  before = c .before;
+  bytes = c .bytes;
+  since = c .since;
+  done = done-of (markOf (c .before)) (c .start) (c .kb1) (c .kb2) (c .bytes) e (c .idle) (c .good) .0;
+  last = c .last;
+}
+
+-- ---- behind events
+pub behind : (es : Log) (e : Event) → numberAfter (takenOf es) e ≡ taken → Behind (after ourStep es .link) (takenOf es) e
+behind es e q =
+    let b = basics es in
+    let t = timely (takenOf es) e q in
+    record {
+      mark = b .mark;
+      order = omega (arith, ap (λ (x : Micros). x .0) (b .mark), ap (λ (x : Micros). x .0) (b .clock), b .order);
+      later = omega (arith, ap (λ (x : Micros). x .0) (b .clock), t .after);
+      ordered = t .forward;
+      known = λ k. log-numbered (takenOf es) e .taken .0 q .0 (inl k);
+    }
+
+-- the link and the events taken, behind one event more
+module _ (es : Log) (e : Event) where
+  abbrev l : Link
+  l = after ourStep es .link
+
+  pub link-taken : numberAfter (takenOf es) e ≡ taken → after ourStep (es ▷ e) .link ≡ linkAfter l e (handled l e)
+  unfolding after takenBy
+  link-taken q = ap (λ (a : Answer). a .link) (answer-taken es e q)
+
+  pub link-refused : (numberAfter (takenOf es) e ≡ taken → ⊥) → after ourStep (es ▷ e) .link ≡ l
+  unfolding after refusedBy
+  link-refused q = ap (λ (a : Answer). a .link) (answer-refused es e q)
+
+  pub log-taken : numberAfter (takenOf es) e ≡ taken → takenOf (es ▷ e) ≡ takenOf es ▷ e
+  unfolding takenOf
+  log-taken q = rw (eq-eqb _ _ q)
+
+  pub log-refused : eqb (numberAfter (takenOf es) e) taken ≡ false → takenOf (es ▷ e) ≡ takenOf es
+  unfolding takenOf
+  log-refused q = rw q
+
+  inv-by : (b : Bool) → eqb (numberAfter (takenOf es) e) taken ≡ b → Inv l (takenOf es) → Inv (after ourStep (es ▷ e) .link) (takenOf (es ▷ e))
+  inv-by true q inv =
+      let t = eqb-true _ _ q in
+      rw (link-taken t, log-taken t) (inv-on l (takenOf es) e (behind es e t) inv)
+  inv-by false q inv = rw (link-refused (eqb-false _ _ q), log-refused q) inv
+
+pub inv-of : (es : Log) → Inv (after ourStep es .link) (takenOf es)
+unfolding after takenOf
+inv-of none = inv-fresh
+inv-of (es ▷ e) = inv-by es e (eqb (numberAfter (takenOf es) e) taken) refl (inv-of es)
+
+-- an event that is taken completes the link's initialization exactly if it completes one on the events taken
+pub completes-connects : (es : Log) (e : Event) → numberAfter (takenOf es) e ≡ taken → Completes (after ourStep es .link) e ↔ Connects (takenOf es) e
+completes-connects es e q =
+    let b = behind es e q in (
+      (λ c. connects-of (takenOf es) e (ends-of (after ourStep es .link) (takenOf es) e b (inv-of es) c)),
+      (λ c. completes-of (after ourStep es .link) (takenOf es) e b (inv-of es) (ended-by (takenOf es) e c) .0),
+    )
+
+-- ---- the reports of an event that is taken, and of one that is refused
+pub reports-taken : (es : Log) (e : Event) → numberAfter (takenOf es) e ≡ taken → reportsTo ourStep es e ≡ listed (handled (after ourStep es .link) e .reports)
+unfolding takenBy
+reports-taken es e q = ap (λ (a : Answer). listed (a .reports)) (answer-taken es e q)
+
+refused-none : (es : Log) (e : Event) → (numberAfter (takenOf es) e ≡ taken → ⊥) → isAmong connectedReport (reportsTo ourStep es e) ≡ false
+unfolding refusedBy listed isAmong
+refused-none es e q = ap (λ (a : Answer). isAmong connectedReport (listed (a .reports))) (answer-refused es e q)
+
+forward-by : (b : Bool) (es : Log) (e : Event) → eqb (numberAfter (takenOf es) e) taken ≡ b → Says connectedReport (reportsTo ourStep es e)
+    → (numberAfter (takenOf es) e ≡ taken) × Connects (takenOf es) e
+forward-by true es e q s =
+    let t = eqb-true _ _ q in
+    (t, completes-connects es e t .0 (says-completes (after ourStep es .link) e (sym (ap (isAmong connectedReport) (reports-taken es e t)) ∙ s)))
+forward-by false es e q s = absurd (false≢true (sym (refused-none es e (eqb-false _ _ q)) ∙ s))
+
+-- THE THEOREM
+pub connects-exactly : (es : Log) (e : Event)
+    → Says connectedReport (reportsTo ourStep es e) ↔ ((numberAfter (takenOf es) e ≡ taken) × Connects (takenOf es) e)
+connects-exactly es e = (
+  forward-by (eqb (numberAfter (takenOf es) e) taken) es e refl,
+  (λ c. ap (isAmong connectedReport) (reports-taken es e (c .0)) ∙ completes-says (after ourStep es .link) e (completes-connects es e (c .0) .1 (c .1))),
+)

@@ -1,0 +1,176 @@
+-- What the event that completes an initialization is answered with: one report, 3, which names the initialization's bytes, and a link that is connected
+-- by its key bytes, with the windows that KB1 names, and awaits nothing.
+-- Assumes nothing.
+use Prim.Native.Nat.{ℕ, _+_, _-_, _≤_, _<_}
+use mathlib.Core.Bool.{Bool, true, false}
+use mathlib.Core.List.{List, [], _∷_, _++_}
+use mathlib.Core.Path.{_≡_, _∙_, refl, sym, ap, ap₂, subst}
+use native.Mathlib.Omega.{arith}
+use lib.Dec.{eqb}
+use lib.ListN.{length, length-append}
+use borrow.Author.Tests.{eqb-true, eqb-false}
+use Rattle.base.specs.Choice.{if_then_else_}
+use Rattle.base.specs.Numbers.{taken}
+use Rattle.base.specs.Reports.{connectedReport, noReason, restarted}
+use Rattle.base.specs.Sums.{countSum}
+use Rattle.units.specs.declared.Micros.{Micros}
+use Rattle.keys.specs.Keys.{goodPair}
+use Rattle.timing.specs.Timing.{setOf}
+use Rattle.events.specs.Events.{isByte}
+use Rattle.events.specs.declared.Kind.{Kind}
+use Rattle.events.specs.declared.Kind.the-variants.{Address, WakeUp, Byte, Tick, Drop, Other}
+use Rattle.events.specs.declared.Event.{Event}
+use Rattle.starts.specs.declared.Start.{Start}
+use Rattle.talk.specs.declared.Reply.the-variants.{Never}
+use Rattle.talk.specs.declared.Request.the-variants.{Ordinary}
+use Rattle.phases.specs.Phases.{starting, connected}
+use Rattle.phases.specs.declared.State.the-variants.{Quiet}
+use Rattle.phases.specs.declared.Phase.{Phase}
+use Rattle.reports.specs.Reporting.{namesBytes, reportOf, appended, listed, told}
+use Rattle.reports.specs.declared.Report.{Report}
+use Rattle.reports.specs.declared.Run.{Run}
+use Rattle.link.specs.Handling.{freshLink, passed, shut, hearing, begun, handled, linkAfter}
+use Rattle.link.specs.Stepping.{takenBy}
+use Rattle.link.specs.declared.Link.{Link}
+use Rattle.link.specs.declared.Answer.{Answer}
+use Rattle.demands.specs.Logs.{Log, none, _▷_, markOf, heardOf, numberAfter, takenOf}
+use Rattle.demands.specs.Histories.{ourStep, after, answerTo}
+use Rattle.demands.specs.Connecting.{Since, here, tick, byte, Connects}
+use Rattle.demands.proofs.Holding.{Holds}
+use Rattle.demands.proofs.Tiling.{passed-heard, shut-heard, passed-flows, shut-none, sum-is}
+use Rattle.demands.proofs.Kept.{timely, kept-of}
+use Rattle.demands.proofs.Basics.{basics, answer-taken}
+use Rattle.demands.proofs.Phases.{Open}
+use Rattle.demands.proofs.Completing.{Completes, connecting, completes-run}
+use Rattle.demands.proofs.Running.{startOn, phaseOn, lastEnd, Starts, Runs, Behind, Inv, open-early, back-start, back-open, back-tick, back-byte, completes-of}
+use Rattle.demands.proofs.Exactly.{runs-starts, done-of, ended-by, behind, link-taken, link-refused, log-taken, log-refused, inv-of}
+
+pub record Connected (log : Log) (e : Event) (c : Connects log e) (a : Answer) : Type 0 where
+  -- its one report: from the first byte behind the start, as many as came since, at the event's end
+  pub reports : listed (a .reports)
+      ≡ (record { first = length (heardOf (c .before)); bytes = length (heardOf (c .bytes)) + 1; time = e .end; number = connectedReport; reason = noReason } ∷ [])
+  -- connected, with nothing open, by these key bytes, which are a good pair
+  pub state : a .link .phase .state ≡ Quiet
+  pub kb1 : a .link .phase .start .kb1 ≡ c .kb1
+  pub kb2 : a .link .phase .start .kb2 ≡ c .kb2
+  pub good : goodPair (c .kb1) (c .kb2) ≡ true
+  -- "Timing starts at the set KB1 names", and nothing is expected yet
+  pub windows : a .link .phase .windows ≡ setOf (c .kb1)
+  pub reply : a .link .phase .reply ≡ Never
+  pub request : a .link .phase .request ≡ Ordinary
+
+-- ---- THE INVARIANT: while the link is in the initialization that a log ends in, the bytes named are those before its start
+abbrev Told : Link → Log → Type 0
+Told l log = (a : Event) (before bs : Log) → Since a before log bs → Runs (markOf before) a bs → Open (phaseOn a bs) (lastEnd a bs) (l .clock)
+    → l .named ≡ length (heardOf before)
+
+module _ (l : Link) (log : Log) (e : Event) (t : Behind l log e) (inv : Inv l log) (heard : l .heard ≡ length (heardOf log))
+    (holds : Holds (l .phase .state) (l .named) (l .heard)) where
+  -- at a start, what was open is closed, and nothing is held
+  told-start : Starts (e .kind) (markOf log) e → handled l e .named ≡ length (heardOf log)
+  unfolding begun
+  told-start s =
+      let r = passed (begun l e) (l .mark) (e .start) in
+      ap (λ (x : Run). x .named) (back-start l log e t inv s)
+      ∙ shut-none r restarted (passed-flows (begun l e) (l .mark) (e .start) holds .holds)
+      ∙ shut-heard r restarted ∙ passed-heard (begun l e) (l .mark) (e .start) ∙ heard
+
+told-by : (l : Link) (log : Log) (e : Event) → Behind l log e → Inv l log → l .heard ≡ length (heardOf log) → Holds (l .phase .state) (l .named) (l .heard)
+    → Told l log → (a : Event) (before bs : Log) → Since a before (log ▷ e) bs → Runs (markOf before) a bs
+    → Open (phaseOn a bs) (lastEnd a bs) (e .end) → handled l e .named ≡ length (heardOf before)
+unfolding begun
+told-by l log e t inv h g n a before bs here u o = told-start l log e t inv h g u
+told-by l log e t inv h g n a before bs (tick k s) u o =
+    let o1 = open-early (phaseOn a bs) (lastEnd a bs) (e .start) (e .end) (t .ordered) o in
+    let w = back-open l log e t inv a before bs s u o1 in
+    ap (λ (x : Run). x .named) (back-tick l log e t inv w k)
+    ∙ n a before bs s u (open-early (phaseOn a bs) (lastEnd a bs) (l .clock) (e .start) (t .later) o1)
+told-by l log e t inv h g n a before (bs ▷ b) (byte k s) u o =
+    let w = back-open l log e t inv a before bs s (u .0) (u .1 .window) in
+    ap (λ (x : Run). x .named) (back-byte l log e t inv a bs w k (u .1) (u .2))
+    ∙ n a before bs s (u .0) (open-early (phaseOn a bs) (lastEnd a bs) (l .clock) (e .start) (t .later) (u .1 .window))
+
+told-on : (l : Link) (log : Log) (e : Event) → Behind l log e → Inv l log → l .heard ≡ length (heardOf log)
+    → Holds (l .phase .state) (l .named) (l .heard) → Told l log → Told (linkAfter l e (handled l e)) (log ▷ e)
+unfolding linkAfter
+told-on l log e t inv h g n = told-by l log e t inv h g n
+
+no-since : (a : Event) (before bs : Log) → Since a before none bs → ⊥
+no-since a before bs s = elim s [ ]
+
+told-next : (b : Bool) (es : Log) (e : Event) → eqb (numberAfter (takenOf es) e) taken ≡ b → Told (after ourStep es .link) (takenOf es)
+    → Told (after ourStep (es ▷ e) .link) (takenOf (es ▷ e))
+told-next true es e q n =
+    let t = eqb-true _ _ q in
+    rw (link-taken es e t, log-taken es e t)
+    (told-on (after ourStep es .link) (takenOf es) e (behind es e t) (inv-of es) (basics es .heard) (kept-of es .holds) n)
+told-next false es e q n = rw (link-refused es e (eqb-false _ _ q), log-refused es e q) n
+
+told-of : (es : Log) → Told (after ourStep es .link) (takenOf es)
+unfolding takenOf
+told-of none = λ a before bs s. absurd (no-since a before bs s)
+told-of (es ▷ e) = told-next (eqb (numberAfter (takenOf es) e) taken) es e refl (told-of es)
+
+-- ---- the bytes heard since the start
+starts-apart : (k : Kind) (m : Micros) (a : Event) → Starts k m a → isByte k ≡ false
+unfolding isByte
+starts-apart Address m a s = refl
+starts-apart WakeUp m a s = refl
+starts-apart Byte m a s = absurd s
+starts-apart Tick m a s = refl
+starts-apart Drop m a s = refl
+starts-apart Other m a s = refl
+
+since-heard : {a : Event} {before log bs : Log} → isByte (a .kind) ≡ false → Since a before log bs
+    → length (heardOf log) ≡ length (heardOf before) + length (heardOf bs)
+unfolding heardOf isByte
+since-heard {a} {before} h here = rw h (omega (arith, length-append (heardOf before) []))
+since-heard h (tick {log = log} {e = e} k s) = rw (ap isByte k) (omega (arith, length-append (heardOf log) [], since-heard h s))
+since-heard h (byte {log = log} {bs = bs} {e = e} k s) =
+    rw (ap isByte k) (omega (arith, length-append (heardOf log) (e .value ∷ []), length-append (heardOf bs) (e .value ∷ []), since-heard h s))
+
+-- ---- the report, and the link
+abbrev reportBy : ℕ → ℕ → Micros → Report
+reportBy first bytes time = record { first = first; bytes = bytes; time = time; number = connectedReport; reason = noReason }
+
+run-reports : (l : Link) (e : Event) (s : Start)
+    → listed (told (hearing (begun l e)) (connecting s) .reports) ≡ (reportBy (l .named) (countSum (l .heard) 1 - l .named) (e .end) ∷ [])
+unfolding told begun reportOf appended listed namesBytes
+run-reports l e s = refl
+
+handled-names : (l : Link) (log : Log) (e : Event) → Behind l log e → Inv l log → l .heard ≡ length (heardOf log) → l .heard < 4_000_000_000
+    → Told l log → (c : Connects log e) → Connected log e c (takenBy l e)
+unfolding takenBy linkAfter told connected starting
+handled-names l log e t inv h few n c =
+    let m = markOf (c .before) in
+    let d = done-of m (c .start) (c .kb1) (c .kb2) (c .bytes) e (c .idle) (c .good) in
+    let f = completes-of l log e t inv (ended-by log e c) in
+    let run = completes-run l e (f .0) in
+    let o = open-early (phaseOn (c .start) (c .bytes)) (lastEnd (c .start) (c .bytes)) (l .clock) (e .start) (t .later) (d .0 .1 .window) in
+    let named = n (c .start) (c .before) (c .bytes) (c .since) (d .0 .0) o in
+    let apart = starts-apart (c .start .kind) m (c .start) (runs-starts m (c .start) (c .bytes) (d .0 .0)) in
+    let bytes : countSum (l .heard) 1 - l .named ≡ length (heardOf (c .bytes)) + 1 =
+    omega (arith, sum-is (l .heard) 1 (omega arith), named, h, since-heard apart (c .since)) in
+    let phase : handled l e .phase ≡ connected (startOn (c .start) (c .bytes)) =
+    ap (λ (x : Run). x .phase) run ∙ ap (λ (p : Phase). connected (p .start)) (f .1) in
+    record {
+      reports =
+          ap (λ (x : Run). listed (x .reports)) run ∙ run-reports l e (l .phase .start) ∙ ap₂ (λ (a b : ℕ). (reportBy a b (e .end) ∷ [])) named bytes;
+      state = ap (λ (p : Phase). p .state) phase;
+      kb1 = ap (λ (p : Phase). p .start .kb1) phase ∙ d .1;
+      kb2 = ap (λ (p : Phase). p .start .kb2) phase ∙ d .2;
+      good = d .3;
+      windows = ap (λ (p : Phase). p .windows) phase ∙ ap setOf (d .1);
+      reply = ap (λ (p : Phase). p .reply) phase;
+      request = ap (λ (p : Phase). p .request) phase;
+    }
+
+-- THE THEOREM
+pub connects-names : (es : Log) (e : Event) → numberAfter (takenOf es) e ≡ taken → (c : Connects (takenOf es) e)
+    → Connected (takenOf es) e c (answerTo ourStep es e)
+connects-names es e q c =
+    let l = after ourStep es .link in
+    let b = basics es in
+    let few : l .heard < 4_000_000_000 = omega (arith, b .heard, b .few, timely (takenOf es) e q .room) in
+    subst (Connected (takenOf es) e c) (sym (answer-taken es e q))
+    (handled-names l (takenOf es) e (behind es e q) (inv-of es) (b .heard) few (told-of es) c)
