@@ -1,0 +1,347 @@
+-- A session going on: what the link of a session keeps (`At`), and that it keeps it while time passes and while an event closes what is open; the
+-- reports made on the way are those that `Tells` says.
+-- Assumes nothing.
+use Prim.Native.Nat.{ℕ}
+use mathlib.Core.Bool.{Bool, true, false, not, _&&_, _||_, false≢true}
+use mathlib.Core.List.{List, [], _∷_, _++_}
+use mathlib.Core.Path.{_≡_, refl, sym, ap, _∙_, subst}
+use mathlib.Core.Logic.{_↔_, _⊎_, ⊎-elim}
+use native.Mathlib.Omega.{arith}
+use lib.ListN.{length, drop}
+use Rattle.base.specs.Choice.{if_then_else_}
+use Rattle.base.specs.Numbers.{taken}
+use Rattle.base.specs.Reports.{frameReport, damageReport, noReplyReport, downReport, noReason, brokenOff, early, stray, stopped, idleOver}
+use Rattle.base.proofs.Tests.{and-split, by-test}
+use Rattle.units.specs.Units.{gapOf}
+use Rattle.units.specs.declared.Micros.{Micros}
+use Rattle.keys.specs.Keys.{goodPair}
+use Rattle.timing.specs.Timing.{isPassed}
+use Rattle.frame.specs.Read.{readOf, dataOf}
+use Rattle.events.specs.declared.Kind.the-variants.{Byte}
+use Rattle.events.specs.declared.Side.{Side}
+use Rattle.events.specs.declared.Side.the-variants.{Unit}
+use Rattle.events.specs.declared.Event.{Event}
+use Rattle.starts.specs.Starts.{isOver}
+use Rattle.talk.specs.Talk.{isFirst, headReason}
+use Rattle.talk.specs.Talk.{begun as opening-message}
+use Rattle.talk.specs.declared.Reply.{Reply}
+use Rattle.talk.specs.declared.Reply.the-variants.{Never}
+use Rattle.phases.specs.Phases.{isStarting, isQuiet, isHeld, isOpen, isConnected, down, talking, settled}
+use Rattle.phases.specs.declared.State.{State}
+use Rattle.phases.specs.declared.State.the-variants.{Down, Starting, Quiet, Held, Damage}
+use Rattle.phases.specs.declared.Phase.{Phase}
+use Rattle.moves.specs.Moves.{still, makes, lossReason, isSilent, afterSilence, afterP2, afterP3, sinceOrigin, afterWindow}
+use Rattle.moves.specs.declared.Move.{Move}
+use Rattle.reports.specs.Reporting.{namesBytes, reportOf, told, moved}
+use Rattle.reports.specs.declared.Report.{Report}
+use Rattle.reports.specs.declared.Run.{Run}
+use Rattle.link.specs.Handling.{passed}
+use Rattle.link.proofs.Three.{tells, passedTells}
+use Rattle.demands.specs.Logs.{Log, _▷_, heardIn, numberAfter, takenOf, Begins, more}
+use Rattle.demands.specs.Histories.{ourStep, isAmong}
+use Rattle.demands.specs.Accounts.{namedBy}
+use Rattle.demands.specs.Sessions.{Frames, stops, pendingIn, Talk, afterReport, talkAfter, Session, inForce, gapBefore, Stray, Early, Turns}
+use Rattle.demands.proofs.Messages.{Kept, GoneOn}
+use Rattle.demands.proofs.Stopping.{Stopped, Answers}
+use Rattle.demands.proofs.Saying.{Each, each-none, each-one, each-both, says-both, talk-both}
+
+-- ---- what the link of a session keeps
+-- its phase has what the talk says
+pub record Fits (t : Talk) (p : Phase) : Type 0 where
+  pub connected : isConnected (p .state) ≡ true
+  pub good : goodPair (t .kb1) (t .kb2) ≡ true
+  pub kb1 : p .start .kb1 ≡ t .kb1
+  pub kb2 : p .start .kb2 ≡ t .kb2
+  pub windows : p .windows ≡ inForce t
+  pub reply : p .reply ≡ t .reply
+  pub kept : Kept (p .request) (p .asked) (pendingIn (t .kb1) (t .kb2) (t .frames))
+
+-- a message held: the bytes from its first on went on with it
+pub record Holds (es : Log) (side : Side) (p : Phase) (named : ℕ) : Type 0 where
+  pub head : ℕ
+  pub rest : List ℕ
+  pub bytes : drop named (heardIn es) ≡ head ∷ rest
+  pub right : headReason (p .start .kb1) head ≡ noReason
+  pub gone : GoneOn side (opening-message side head) rest (p .message)
+  pub whose : p .message .side ≡ side
+
+-- a message held or damage: its first byte, and whether that was early or stray; no report was made since, so that the session is the present one
+pub record Opened (es : Log) (t : Talk) (p : Phase) (named : ℕ) : Type 0 where
+  pub before : Log
+  pub byte : Event
+  pub begins : Begins (before ▷ byte) es
+  pub kind : byte .kind ≡ Byte
+  pub number : numberAfter (takenOf before) byte ≡ taken
+  pub index : length (heardIn before) ≡ named
+  pub session : Session ourStep (before ▷ byte) t
+  pub hasty : (lossReason p noReason ≡ early) ↔ Early t (gapBefore (takenOf before) byte) byte
+  pub astray : (lossReason p noReason ≡ stray) ↔ Stray t (gapBefore (takenOf before) byte) byte
+  pub held : isHeld (p .state) ≡ true → Holds es (byte .side) p named
+
+-- a phase with bytes named and heard, behind es in the session t
+pub record At (es : Log) (t : Talk) (p : Phase) (named heard : ℕ) : Type 0 where
+  pub fits : Fits t p
+  pub bytes : heard ≡ length (heardIn es)
+  pub calm : isQuiet (p .state) ≡ true → named ≡ heard
+  pub opened : isOpen (p .state) ≡ true → Opened es t p named
+
+-- an event that is no byte heard changes nothing of this
+holds-more : (es : Log) (e : Event) (side : Side) (p : Phase) (named : ℕ) → heardIn (es ▷ e) ≡ heardIn es → Holds es side p named → Holds (es ▷ e) side p named
+holds-more es e side p named q h = record {
+  head = h .head;
+  rest = h .rest;
+  bytes = ap (drop named) q ∙ h .bytes;
+  right = h .right;
+  gone = h .gone;
+  whose = h .whose;
+}
+
+opened-more : (es : Log) (e : Event) (t : Talk) (p : Phase) (named : ℕ) → heardIn (es ▷ e) ≡ heardIn es → Opened es t p named → Opened (es ▷ e) t p named
+opened-more es e t p named q o = record {
+  before = o .before;
+  byte = o .byte;
+  begins = more (o .begins);
+  kind = o .kind;
+  number = o .number;
+  index = o .index;
+  session = o .session;
+  hasty = o .hasty;
+  astray = o .astray;
+  held = λ h. holds-more es e (o .byte .side) p named q (o .held h);
+}
+
+pub at-more : (es : Log) (e : Event) (t : Talk) (p : Phase) (named heard : ℕ) → heardIn (es ▷ e) ≡ heardIn es → At es t p named heard → At (es ▷ e) t p named heard
+at-more es e t p named heard q a = record {
+  fits = a .fits;
+  bytes = a .bytes ∙ sym (ap length q);
+  calm = a .calm;
+  opened = λ o. opened-more es e t p named q (a .opened o);
+}
+
+-- ---- states
+pub open-or-quiet : (st : State) → isConnected st ≡ true → isOpen st ≡ false → isQuiet st ≡ true
+unfolding isConnected isOpen isQuiet
+open-or-quiet Down c o = c
+open-or-quiet Starting c o = c
+open-or-quiet Quiet c o = refl
+open-or-quiet Held c o = sym o
+open-or-quiet Damage c o = sym o
+
+pub never-starting : (st : State) → isConnected st ≡ true → isStarting st ≡ true → ⊥
+unfolding isConnected isStarting
+never-starting Down c s = false≢true c
+never-starting Starting c s = false≢true c
+never-starting Quiet c s = false≢true s
+never-starting Held c s = false≢true s
+never-starting Damage c s = false≢true s
+
+-- ---- what is shown of a report of an event
+-- a report of the event e behind es, in a session with these key bytes and these frames; `all` are the event's reports
+pub record Tells (es : Log) (e : Event) (kb1 kb2 : ℕ) (fs : Frames) (all : List Report) (x : Report) : Type 0 where
+  pub reads : x .number ≡ frameReport → readOf kb1 kb2 (namedBy (heardIn (es ▷ e)) x) .no ≡ taken
+  pub turns : (x .number ≡ frameReport) ⊎ (x .number ≡ damageReport) → Turns ourStep (es ▷ e) x
+  pub answers : x .number ≡ downReport → x .reason ≡ stopped → Answers kb1 kb2 fs (e .side) (heardIn (es ▷ e)) all
+  pub stops : x .number ≡ frameReport → e .side ≡ Unit → stops (pendingIn kb1 kb2 fs) (dataOf kb1 kb2 (namedBy (heardIn (es ▷ e)) x)) ≡ true → Stopped all
+
+-- a talk with this reply
+abbrev pub withReply : Talk → Reply → Talk
+withReply t reply = record { kb1 = t .kb1; kb2 = t .kb2; frames = t .frames; reply = reply }
+
+-- ---- the reports of an event e behind es, move by move
+module _ (es : Log) (e : Event) (all : List Report) where
+  abbrev pub Told : Talk → Report → Type 0
+  Told t x = Tells es e (t .kb1) (t .kb2) (t .frames) all x
+
+  abbrev pub talked : Talk → List Report → Talk
+  talked t rs = talkAfter t (e .side) (heardIn (es ▷ e)) rs
+
+  -- of most reports nothing is to be shown
+  pub plain : (t : Talk) (x : Report) → (x .number ≡ frameReport → ⊥) → (x .number ≡ damageReport → ⊥) → (x .number ≡ downReport → x .reason ≡ stopped → ⊥) → Told t x
+  plain t x f d s = record {
+    reads = λ n. absurd (f n);
+    turns = λ n. absurd (⊎-elim f d n);
+    answers = λ n r. absurd (s n r);
+    stops = λ n u r. absurd (f n);
+  }
+
+  -- after some of its reports the session goes on, with another reply that may come; or it is over
+  pub data Passes (t : Talk) (rs : List Report) (r : Run) : Type 0 where
+    up : (reply : Reply) → isAmong downReport rs ≡ false → Each (Told t) rs → talked t rs ≡ withReply t reply
+        → At es (withReply t reply) (r .phase) (r .named) (r .heard) → Passes t rs r
+    gone : isAmong downReport rs ≡ true → Each (Told t) rs → r .phase ≡ down → Passes t rs r
+
+  -- a move that makes no report
+  pub rests : (t : Talk) (r : Run) → At es t (r .phase) (r .named) (r .heard) → Passes t (tells r (still (r .phase))) (moved r (still (r .phase)))
+  unfolding tells moved isAmong talkAfter
+  rests t r a = up (t .reply) refl (each-none (Told t)) refl a
+
+  -- nothing is open, and no reply is expected
+  settled-at : (t : Talk) (p : Phase) (named named′ heard : ℕ) → At es t p named heard → named′ ≡ heard → At es (withReply t Never) (settled p) named′ heard
+  unfolding settled talking isConnected isOpen
+  settled-at t p named named′ heard a q =
+      let f = a .fits in
+      record {
+        fits = record { connected = refl; good = f .good; kb1 = f .kb1; kb2 = f .kb2; windows = f .windows; reply = refl; kept = f .kept };
+        bytes = a .bytes;
+        calm = λ _. q;
+        opened = λ o. absurd (false≢true o);
+      }
+
+  -- ---- a report 2
+  same-loss : (p : Phase) (why k : ℕ) → (why ≡ k → ⊥) → (noReason ≡ k → ⊥) → (lossReason p why ≡ k) ↔ (lossReason p noReason ≡ k)
+  unfolding lossReason
+  same-loss p why k h z = by-held (isHeld (p .state))
+    where
+      by-held : (b : Bool) → ((if b then why else p .message .why) ≡ k) ↔ ((if b then noReason else p .message .why) ≡ k)
+      by-held true = (λ q. absurd (h q), λ q. absurd (z q))
+      by-held false = (λ q. q, λ q. q)
+
+  -- a report that names what is open from its first byte on
+  pub turned : (t : Talk) (p : Phase) (named : ℕ) (x : Report) → Opened es t p named → x .first ≡ named
+      → (((x .number ≡ damageReport) × (x .reason ≡ early)) ↔ (lossReason p noReason ≡ early))
+      → (((x .number ≡ damageReport) × (x .reason ≡ stray)) ↔ (lossReason p noReason ≡ stray)) → Turns ourStep (es ▷ e) x
+  turned t p named x o n f g = record {
+    first = record {
+      before = o .before;
+      byte = o .byte;
+      talk = t;
+      begins = more (o .begins);
+      kind = o .kind;
+      number = o .number;
+      index = o .index ∙ sym n;
+      session = o .session;
+    };
+    early = (λ q. o .hasty .0 (f .0 q), λ q. f .1 (o .hasty .1 q));
+    stray = (λ q. o .astray .0 (g .0 q), λ q. g .1 (o .astray .1 q));
+  }
+
+  damage-told : (t : Talk) (r : Run) (why : ℕ) → (why ≡ early → ⊥) → (why ≡ stray → ⊥) → Opened es t (r .phase) (r .named)
+      → Told t (reportOf r damageReport (lossReason (r .phase) why))
+  unfolding reportOf namesBytes
+  damage-told t r why h k o =
+      let f = same-loss (r .phase) why early h (λ z. omega arith) in
+      let g = same-loss (r .phase) why stray k (λ z. omega arith) in
+      record {
+        reads = λ n. absurd (omega arith);
+        turns = λ _. turned t (r .phase) (r .named) (reportOf r damageReport (lossReason (r .phase) why)) o refl (λ q. f .0 (q .1), λ q. (refl, f .1 q)) (λ q. g .0 (q .1), λ q. (refl, g .1 q));
+        answers = λ n. absurd (omega arith);
+        stops = λ n. absurd (omega arith);
+      }
+
+  pub damage-ends : (t : Talk) (r : Run) (why : ℕ) → (why ≡ early → ⊥) → (why ≡ stray → ⊥) → At es t (r .phase) (r .named) (r .heard) → isOpen (r .phase .state) ≡ true
+      → Passes t (tells r (makes damageReport (lossReason (r .phase) why) (settled (r .phase)))) (moved r (makes damageReport (lossReason (r .phase) why) (settled (r .phase))))
+  unfolding tells moved told reportOf namesBytes isAmong talkAfter afterReport
+  damage-ends t r why h k a o =
+      up Never refl (each-one (Told t) _ (damage-told t r why h k (a .opened o))) refl (settled-at t (r .phase) (r .named) (r .heard) (r .heard) a refl)
+
+  -- ---- time passes
+  silence-step : (t : Talk) (r : Run) (gap : Micros) → At es t (r .phase) (r .named) (r .heard)
+      → Passes t (tells r (afterSilence (r .phase) gap)) (moved r (afterSilence (r .phase) gap))
+  unfolding afterSilence
+  silence-step t r gap a =
+      by-test (λ (m : Move). Passes t (tells r m) (moved r m)) (isOpen (r .phase .state) && isSilent gap)
+      (λ c. damage-ends t r brokenOff (λ z. omega arith) (λ z. omega arith) a (and-split (isOpen (r .phase .state)) (isSilent gap) c .0)) (λ _. rests t r a)
+
+  no-reply : (t : Talk) (r : Run) → At es t (r .phase) (r .named) (r .heard) → isQuiet (r .phase .state) ≡ true
+      → Passes t (tells r (makes noReplyReport noReason (settled (r .phase)))) (moved r (makes noReplyReport noReason (settled (r .phase))))
+  unfolding tells moved told reportOf namesBytes isAmong talkAfter afterReport
+  no-reply t r a q =
+      up Never refl (each-one (Told t) _ (plain t _ (λ n. omega arith) (λ n. omega arith) (λ n. absurd (omega arith)))) refl
+      (settled-at t (r .phase) (r .named) (r .named) (r .heard) a (a .calm q))
+
+  p2-step : (t : Talk) (r : Run) (gap : Micros) → At es t (r .phase) (r .named) (r .heard)
+      → Passes t (tells r (afterP2 (r .phase) gap)) (moved r (afterP2 (r .phase) gap))
+  unfolding afterP2
+  p2-step t r gap a =
+      by-test (λ (m : Move). Passes t (tells r m) (moved r m)) (isQuiet (r .phase .state) && isFirst (r .phase .reply) && isPassed (r .phase .windows .p2max) gap)
+      (λ c. no-reply t r a (and-split (isQuiet (r .phase .state)) (isFirst (r .phase .reply)) (and-split _ _ c .0) .0)) (λ _. rests t r a)
+
+  pub goes-down : (t : Talk) (r : Run) (reason : ℕ) → (reason ≡ stopped → ⊥) → Passes t (tells r (makes downReport reason down)) (moved r (makes downReport reason down))
+  unfolding tells moved told reportOf isAmong
+  goes-down t r reason h = gone refl (each-one (Told t) _ (plain t _ (λ n. omega arith) (λ n. omega arith) (λ n. h))) refl
+
+  p3-step : (t : Talk) (r : Run) (gap : Micros) → At es t (r .phase) (r .named) (r .heard)
+      → Passes t (tells r (afterP3 (r .phase) gap)) (moved r (afterP3 (r .phase) gap))
+  unfolding afterP3
+  p3-step t r gap a =
+      by-test (λ (m : Move). Passes t (tells r m) (moved r m)) (isQuiet (r .phase .state) && not (isFirst (r .phase .reply)) && isPassed (r .phase .windows .p3max) gap)
+      (λ _. goes-down t r idleOver (λ z. omega arith)) (λ _. rests t r a)
+
+  window-step : (t : Talk) (r : Run) (mark time : Micros) → At es t (r .phase) (r .named) (r .heard)
+      → Passes t (tells r (afterWindow (r .phase) mark time)) (moved r (afterWindow (r .phase) mark time))
+  unfolding afterWindow
+  window-step t r mark time a =
+      by-test (λ (m : Move). Passes t (tells r m) (moved r m)) (isStarting (r .phase .state) && isOver (r .phase .start) (sinceOrigin (r .phase) mark time))
+      (λ c. absurd (never-starting (r .phase .state) (a .fits .connected) (and-split (isStarting (r .phase .state)) _ c .0))) (λ _. rests t r a)
+
+  -- ---- one move behind another
+  -- a link that is down rests
+  pub record Rests (r : Run) (m : Move) : Type 0 where
+    pub silent : tells r m ≡ []
+    pub still-down : moved r m .phase ≡ down
+
+  pub down-rests : (r : Run) (f : Phase → Move) → f down ≡ still down → r .phase ≡ down → Rests r (f (r .phase))
+  unfolding tells moved
+  down-rests r f d q =
+      let s : f (r .phase) ≡ still down = ap f q ∙ d in
+      record { silent = ap (tells r) s; still-down = ap (λ (m : Move). moved r m .phase) s }
+
+  or-first : (a b : Bool) → a ≡ true → (a || b) ≡ true
+  or-first true b h = refl
+  or-first false b h = absurd (false≢true h)
+
+  or-none : (a b : Bool) → a ≡ false → b ≡ false → (a || b) ≡ false
+  or-none a b h k = rw (h, k) refl
+
+  or-second : (a b : Bool) → b ≡ true → (a || b) ≡ true
+  or-second true b h = refl
+  or-second false b h = h
+
+  pub says-first : (rs ss : List Report) → isAmong downReport rs ≡ true → isAmong downReport (rs ++ ss) ≡ true
+  says-first rs ss h = says-both downReport rs ss ∙ or-first (isAmong downReport rs) (isAmong downReport ss) h
+
+  pub says-second : (rs ss : List Report) → isAmong downReport ss ≡ true → isAmong downReport (rs ++ ss) ≡ true
+  says-second rs ss h = says-both downReport rs ss ∙ or-second (isAmong downReport rs) (isAmong downReport ss) h
+
+  pub says-none : (rs ss : List Report) → isAmong downReport rs ≡ false → isAmong downReport ss ≡ false → isAmong downReport (rs ++ ss) ≡ false
+  says-none rs ss h k = says-both downReport rs ss ∙ or-none (isAmong downReport rs) (isAmong downReport ss) h k
+
+  pub talked-both : (t : Talk) (reply : Reply) (rs ss : List Report) → talked t rs ≡ withReply t reply → talked t (rs ++ ss) ≡ talked (withReply t reply) ss
+  talked-both t reply rs ss q = talk-both t (e .side) (heardIn (es ▷ e)) rs ss ∙ ap (λ (u : Talk). talked u ss) q
+
+  pub next : (t : Talk) (rs : List Report) (r : Run) (m : Move) → Passes t rs r
+      → ((u : Talk) → At es u (r .phase) (r .named) (r .heard) → Passes u (tells r m) (moved r m)) → (r .phase ≡ down → Rests r m)
+      → Passes t (rs ++ tells r m) (moved r m)
+  next t rs r m (up reply n f q a) s d = on (s (withReply t reply) a)
+    where
+      on : Passes (withReply t reply) (tells r m) (moved r m) → Passes t (rs ++ tells r m) (moved r m)
+      on (up again k g p b) = up again (says-none rs (tells r m) n k) (each-both (Told t) rs (tells r m) f g) (talked-both t reply rs (tells r m) q ∙ p) b
+      on (gone k g p) = gone (says-second rs (tells r m) k) (each-both (Told t) rs (tells r m) f g) p
+  next t rs r m (gone n f q) s d =
+      let x = d q in
+      gone (says-first rs (tells r m) n) (each-both (Told t) rs (tells r m) f (subst (Each (Told t)) (sym (x .silent)) (each-none (Told t)))) (x .still-down)
+
+  p2-down : (gap : Micros) → afterP2 down gap ≡ still down
+  unfolding afterP2 down isQuiet
+  p2-down gap = refl
+
+  p3-down : (gap : Micros) → afterP3 down gap ≡ still down
+  unfolding afterP3 down isQuiet
+  p3-down gap = refl
+
+  window-down : (mark time : Micros) → afterWindow down mark time ≡ still down
+  unfolding afterWindow down isStarting
+  window-down mark time = refl
+
+  -- TIME PASSES IN A SESSION
+  pub passed-step : (t : Talk) (r : Run) (mark start : Micros) → At es t (r .phase) (r .named) (r .heard) → Passes t (passedTells r mark start) (passed r mark start)
+  unfolding passedTells passed
+  passed-step t r mark start a =
+      let gap = gapOf mark start in
+      let r1 = moved r (afterSilence (r .phase) gap) in
+      let r2 = moved r1 (afterP2 (r1 .phase) gap) in
+      let r3 = moved r2 (afterP3 (r2 .phase) gap) in
+      let s1 = silence-step t r gap a in
+      let s2 = next t _ r1 _ s1 (λ u b. p2-step u r1 gap b) (down-rests r1 (λ (p : Phase). afterP2 p gap) (p2-down gap)) in
+      let s3 = next t _ r2 _ s2 (λ u b. p3-step u r2 gap b) (down-rests r2 (λ (p : Phase). afterP3 p gap) (p3-down gap)) in
+      next t _ r3 _ s3 (λ u b. window-step u r3 mark start b) (down-rests r3 (λ (p : Phase). afterWindow p mark start) (window-down mark start))

@@ -1,0 +1,579 @@
+-- A byte heard in a session: it opens a message or damage, goes on with it, or ends a message in a frame; what the link then keeps is what the session
+-- says (`Ends`), and a unit frame that answers a stop ends the session.
+-- Assumes nothing.
+use Prim.Native.Nat.{ℕ, _+_, _-_, _≤_, _<_}
+use mathlib.Core.Bool.{Bool, true, false, not, _&&_, _||_, false≢true}
+use mathlib.Core.List.{List, [], _∷_, _++_}
+use mathlib.Core.Path.{_≡_, refl, sym, ap, ap₂, _∙_, subst}
+use mathlib.Core.Logic.{_↔_, ⊎-elim}
+use native.Mathlib.Omega.{arith}
+use borrow.Author.Tests.{eq-eqb, eqb-true, not-false}
+use lib.Dec.{eqb}
+use lib.ListN.{length, getD, take, drop, length-append, length-drop}
+use lib.Seq.{take-all, drop-append-le, drop-at, getD-drop}
+use Rattle.base.specs.Choice.{if_then_else_}
+use Rattle.base.specs.Numbers.{taken}
+use Rattle.base.specs.Sums.{countSum}
+use Rattle.base.specs.Reports.{frameReport, outsideReport, downReport, noReason, early, stray, otherSide, stopped}
+use Rattle.base.proofs.Tests.{and-split, by-test}
+use Rattle.units.specs.Units.{gapOf}
+use Rattle.units.specs.declared.Micros.{Micros}
+use Rattle.timing.specs.Timing.{setOf, decodedOf}
+use Rattle.timing.specs.declared.Windows.{Windows}
+use Rattle.frame.specs.Read.{readOf, dataOf}
+use Rattle.events.specs.Events.{isTester, isNobody, sameSide}
+use Rattle.events.specs.declared.Kind.the-variants.{Byte}
+use Rattle.events.specs.declared.Side.{Side}
+use Rattle.events.specs.declared.Side.the-variants.{Tester, Unit, Nobody}
+use Rattle.events.specs.declared.Event.{Event}
+use Rattle.talk.specs.Talk.{headReason, firstReason, begun, partReason, laterReason, isSum, grown, withData, requestOf, isExactly, asksCodes, ifAllowed, requestAfter, isStopped}
+use Rattle.talk.specs.declared.Part.{Part}
+use Rattle.talk.specs.declared.Part.the-variants.{Target, Source, Length, Data, Sum}
+use Rattle.talk.specs.declared.Reply.the-variants.{First, Further}
+use Rattle.talk.specs.declared.Request.{Request}
+use Rattle.talk.specs.declared.Request.the-variants.{Ordinary, Stop, OwnTiming, NewTiming}
+use Rattle.talk.specs.declared.Message.{Message}
+use Rattle.talk.proofs.Frames.{isMessage, message-reads}
+use Rattle.phases.specs.Phases.{isQuiet, isHeld, isOpen, isConnected, down, talking, holding, damaged, timed, asked, answered, framed}
+use Rattle.phases.specs.declared.State.{State}
+use Rattle.phases.specs.declared.State.the-variants.{Down, Starting, Quiet, Held, Damage}
+use Rattle.phases.specs.declared.Phase.{Phase}
+use Rattle.moves.specs.Moves.{still, makes, lossReason, reasonAtFirst, firstByte, laterByte, byteIn, afterByte, afterStop}
+use Rattle.moves.specs.declared.Move.{Move}
+use Rattle.reports.specs.Reporting.{namesBytes, reportOf, told, withPhase, moved}
+use Rattle.reports.specs.declared.Report.{Report}
+use Rattle.reports.specs.declared.Run.{Run}
+use Rattle.link.specs.Handling.{hearing, byteHeard}
+use Rattle.link.proofs.Three.{tells, byteTells}
+use Rattle.demands.specs.Logs.{Log, _▷_, markOf, heardIn, numberAfter, takenOf, whole, more}
+use Rattle.demands.specs.Histories.{ourStep, isAmong, Among, first, later}
+use Rattle.demands.specs.Accounts.{namedBy}
+use Rattle.demands.specs.Sessions.{Frame, Frames, _▸_, stops, resets, retimes, codesIn, pendingIn, windowsIn, Talk, afterReport, talkAfter, Session, inForce, gapBefore, Stray, Early}
+use Rattle.demands.proofs.Messages.{Carries, Kept, begun as fresh, on, gone-by, gone-ends, ends-now, kept-asked, message-carries, reply-windows, reply-request, reply-stops}
+use Rattle.demands.proofs.Tiling.{sum-is}
+use Rattle.demands.proofs.Saying.{Each, each-none, each-one, each-both}
+use Rattle.demands.proofs.Turns.{same-is, has-side, first-early, first-stray, first-head, later-elsewhere}
+use Rattle.demands.proofs.Stopping.{Stopped}
+use Rattle.demands.proofs.Going.{Fits, Holds, Opened, At, Told, plain, turned}
+use Rattle.demands.proofs.Ending.{Ends, still-up, over}
+
+-- ---- small laws
+within : (n : ℕ) (l : List ℕ) (x : ℕ) (xs : List ℕ) → drop n l ≡ x ∷ xs → n ≤ length l
+within n l x xs q = let z = ap length q in let y = length-drop n l in omega arith
+
+grown-side : (m : Message) (v : ℕ) → grown m v .side ≡ m .side
+unfolding grown withData
+grown-side m v = by-part (m .part) refl
+  where
+    by-part : (part : Part) → m .part ≡ part → grown m v .side ≡ m .side
+    by-part Target q = rw q
+    by-part Source q = rw q
+    by-part Length q = rw q
+    by-part Data q = rw q
+    by-part Sum q = rw q
+
+later-side : (m : Message) (side : Side) (v : ℕ) → laterReason m side v ≡ noReason → side ≡ m .side
+unfolding laterReason
+later-side m side v q = by-same (sameSide side (m .side)) refl q
+  where
+    by-same : (b : Bool) → sameSide side (m .side) ≡ b → (if not b then otherSide else partReason (m .part) m v) ≡ noReason → side ≡ m .side
+    by-same true s r = same-is side (m .side) s
+    by-same false s r = absurd (omega arith)
+
+unit-side : (side : Side) → isTester side ≡ false → isNobody side ≡ false → side ≡ Unit
+unfolding isTester isNobody
+unit-side Tester t n = absurd (false≢true (sym t))
+unit-side Unit t n = refl
+unit-side Nobody t n = absurd (false≢true (sym n))
+
+tester-unit : (side : Side) → isTester side ≡ true → side ≡ Unit → ⊥
+unfolding isTester
+tester-unit side t u = false≢true (sym (ap isTester u) ∙ t)
+
+held-loss : (p : Phase) (why : ℕ) → isHeld (p .state) ≡ true → lossReason p why ≡ why
+unfolding lossReason
+held-loss p why h = rw h
+
+request-not : (m : Message) → isStopped (requestOf m) ≡ false
+unfolding requestOf isStopped
+request-not m =
+    by-test (λ (q : Request). isStopped q ≡ false) (eqb (m .first) 0x82) {x = Stop} (λ _. refl)
+    (λ _. by-test (λ (q : Request). isStopped q ≡ false) (isExactly m 0x8301) {x = OwnTiming} (λ _. refl)
+    (λ _. by-test (λ (q : Request). isStopped q ≡ false) (asksCodes m) {x = NewTiming} {y = Ordinary} (λ _. refl) (λ _. refl)))
+
+-- a frame more: what is pending, and the windows in force
+windows-asked : (kb1 kb2 : ℕ) (fs : Frames) (f : Frame) → isTester (f .side) ≡ true → windowsIn kb1 kb2 (fs ▸ f) ≡ windowsIn kb1 kb2 fs
+unfolding windowsIn
+windows-asked kb1 kb2 fs f c = rw c
+
+pending-asked : (kb1 kb2 : ℕ) (fs : Frames) (f : Frame) → isTester (f .side) ≡ true → pendingIn kb1 kb2 (fs ▸ f) ≡ dataOf kb1 kb2 (f .bytes)
+unfolding pendingIn
+pending-asked kb1 kb2 fs f c = rw c
+
+abbrev replyWindows : ℕ → Windows → List ℕ → List ℕ → Windows
+replyWindows kb1 w q a = if resets q a then setOf kb1 else if retimes q a then ifAllowed (decodedOf (codesIn q)) w else w
+
+windows-answered : (kb1 kb2 : ℕ) (fs : Frames) (f : Frame) → isTester (f .side) ≡ false
+    → windowsIn kb1 kb2 (fs ▸ f) ≡ replyWindows kb1 (windowsIn kb1 kb2 fs) (pendingIn kb1 kb2 fs) (dataOf kb1 kb2 (f .bytes))
+unfolding windowsIn
+windows-answered kb1 kb2 fs f c = rw c
+
+pending-answered : (kb1 kb2 : ℕ) (fs : Frames) (f : Frame) → isTester (f .side) ≡ false
+    → pendingIn kb1 kb2 (fs ▸ f)
+    ≡ (if stops (pendingIn kb1 kb2 fs) (dataOf kb1 kb2 (f .bytes)) || resets (pendingIn kb1 kb2 fs) (dataOf kb1 kb2 (f .bytes)) || retimes (pendingIn kb1 kb2 fs) (dataOf kb1 kb2 (f .bytes)) then [] else pendingIn kb1 kb2 fs)
+unfolding pendingIn
+pending-answered kb1 kb2 fs f c = rw c
+
+-- ---- a byte e, behind es
+module _ (es : Log) (e : Event) (all : List Report) (kind : e .kind ≡ Byte) (number : numberAfter (takenOf es) e ≡ taken)
+    (one-more : heardIn (es ▷ e) ≡ heardIn es ++ (e .value ∷ [])) (room : length (heardIn es) ≤ 4_000_000_000)
+    (byte : (i : ℕ) → getD (heardIn (es ▷ e)) i 0 < 256) (mark : Micros) (mark-is : mark ≡ markOf (takenOf es)) where
+  sided : isNobody (e .side) ≡ false
+  sided = has-side (takenOf es) e number kind
+
+  heard-more : (heard : ℕ) → heard ≡ length (heardIn es) → countSum heard 1 ≡ length (heardIn (es ▷ e))
+  heard-more heard q =
+      let c = sum-is heard 1 (omega arith) in
+      let z = ap length one-more in
+      let y = length-append (heardIn es) (e .value ∷ []) in
+      omega arith
+
+  -- the byte's move, and then a stop
+  abbrev heardTells : Run → Move → List Report
+  heardTells r m = tells (hearing r) m ++ tells (moved (hearing r) m) (afterStop (moved (hearing r) m .phase))
+
+  abbrev heardRun : Run → Move → Run
+  heardRun r m = moved (moved (hearing r) m) (afterStop (moved (hearing r) m .phase))
+
+  abbrev Heard : Talk → Run → Move → Type 0
+  Heard t r m = Each (λ (x : Report). Among x all) (heardTells r m) → Ends es e all t (heardTells r m) (heardRun r m)
+
+  -- a byte that makes no report
+  silent-byte : (t : Talk) (r : Run) (q : Phase) → isQuiet (q .state) ≡ false
+      → (Session ourStep (es ▷ e) t → At (es ▷ e) t q (r .named) (countSum (r .heard) 1)) → Heard t r (still q)
+  unfolding tells moved afterStop isAmong talkAfter
+  silent-byte t r q n f _ =
+      by-test (λ (m : Move). Ends es e all t ([] ++ tells (withPhase (hearing r) q) m) (moved (withPhase (hearing r) q) m)) (isQuiet (q .state) && isStopped (q .request))
+      (λ c. absurd (false≢true (sym n ∙ and-split (isQuiet (q .state)) _ c .0))) (λ _. still-up refl (each-none (Told es e all t)) f)
+
+  -- ---- the first byte of a message
+  module _ (t : Talk) (p : Phase) (named heard : ℕ) (a : At es t p named heard) (quiet : isQuiet (p .state) ≡ true) (s : Session ourStep (es ▷ e) t) where
+    abbrev reason : ℕ
+    reason = reasonAtFirst p (e .side) (e .value) (gapOf mark (e .start))
+
+    reason-is : reason ≡ firstReason (p .start .kb1) (t .reply) (inForce t) (e .side) (e .value) (gapBefore (takenOf es) e)
+    unfolding reasonAtFirst
+    reason-is i = firstReason (p .start .kb1) (a .fits .reply i) (a .fits .windows i) (e .side) (e .value) (gapOf (mark-is i) (e .start))
+
+    reason-early : (k : ℕ) → k ≡ reason → (k ≡ early) ↔ Early t (gapBefore (takenOf es) e) e
+    reason-early k q = rw (q ∙ reason-is) (first-early t (gapBefore (takenOf es) e) e sided (p .start .kb1))
+
+    reason-stray : (k : ℕ) → k ≡ reason → (k ≡ stray) ↔ Stray t (gapBefore (takenOf es) e) e
+    reason-stray k q = rw (q ∙ reason-is) (first-stray t (gapBefore (takenOf es) e) e sided (p .start .kb1))
+
+    named-is : length (heardIn es) ≡ named
+    named-is = sym (a .bytes) ∙ sym (a .calm quiet)
+
+    first-held : reason ≡ noReason → At (es ▷ e) t (holding p (begun (e .side) (e .value))) named (countSum heard 1)
+    unfolding holding talking isConnected isQuiet lossReason isHeld begun reasonAtFirst
+    first-held z =
+        let f = a .fits in
+        record {
+          fits = record { connected = refl; good = f .good; kb1 = f .kb1; kb2 = f .kb2; windows = f .windows; reply = f .reply; kept = f .kept };
+          bytes = heard-more heard (a .bytes);
+          calm = λ q. absurd (false≢true q);
+          opened = λ _. record {
+            before = es;
+            byte = e;
+            begins = whole;
+            kind = kind;
+            number = number;
+            index = named-is;
+            session = s;
+            hasty = reason-early noReason (sym z);
+            astray = reason-stray noReason (sym z);
+            held = λ _. record {
+              head = e .value;
+              rest = [];
+              bytes = ap (drop named) one-more ∙ drop-at (heardIn es) (e .value ∷ []) named named-is;
+              right = first-head (p .start .kb1) (p .reply) (p .windows) (e .side) (e .value) (gapOf mark (e .start)) z;
+              gone = fresh;
+              whose = refl;
+            };
+          };
+        }
+
+    first-damaged : At (es ▷ e) t (damaged p reason) named (countSum heard 1)
+    unfolding damaged talking isConnected isQuiet lossReason isHeld
+    first-damaged =
+        let f = a .fits in
+        record {
+          fits = record { connected = refl; good = f .good; kb1 = f .kb1; kb2 = f .kb2; windows = f .windows; reply = f .reply; kept = f .kept };
+          bytes = heard-more heard (a .bytes);
+          calm = λ q. absurd (false≢true q);
+          opened = λ _. record {
+            before = es;
+            byte = e;
+            begins = whole;
+            kind = kind;
+            number = number;
+            index = named-is;
+            session = s;
+            hasty = reason-early reason refl;
+            astray = reason-stray reason refl;
+            held = λ h. absurd (false≢true h);
+          };
+        }
+
+    first-at : At (es ▷ e) t (firstByte p (e .side) (e .value) (gapOf mark (e .start))) named (countSum heard 1)
+    unfolding firstByte
+    first-at =
+        by-test (λ (q : Phase). At (es ▷ e) t q named (countSum heard 1)) (eqb reason noReason) (λ c. first-held (eqb-true reason noReason c)) (λ _. first-damaged)
+
+  first-opens : (p : Phase) (gap : Micros) → isQuiet (firstByte p (e .side) (e .value) gap .state) ≡ false
+  unfolding firstByte holding damaged talking isQuiet
+  first-opens p gap =
+      let why = reasonAtFirst p (e .side) (e .value) gap in
+      by-test (λ (q : Phase). isQuiet (q .state) ≡ false) (eqb why noReason) {x = holding p (begun (e .side) (e .value))} {y = damaged p why} (λ _. refl) (λ _. refl)
+
+  first-ends : (t : Talk) (r : Run) → At es t (r .phase) (r .named) (r .heard) → isQuiet (r .phase .state) ≡ true
+      → Heard t r (still (firstByte (r .phase) (e .side) (e .value) (gapOf mark (e .start))))
+  first-ends t r a q =
+      silent-byte t r _ (first-opens (r .phase) (gapOf mark (e .start))) (λ s. first-at t (r .phase) (r .named) (r .heard) a q s)
+
+  -- ---- a later byte
+  -- what is open goes on
+  still-open : (t : Talk) (p q : Phase) (named : ℕ) (o : Opened es t p named) → ((lossReason q noReason ≡ early) ↔ (lossReason p noReason ≡ early))
+      → ((lossReason q noReason ≡ stray) ↔ (lossReason p noReason ≡ stray)) → (isHeld (q .state) ≡ true → Holds (es ▷ e) (o .byte .side) q named)
+      → Opened (es ▷ e) t q named
+  still-open t p q named o f g h = record {
+    before = o .before;
+    byte = o .byte;
+    begins = more (o .begins);
+    kind = o .kind;
+    number = o .number;
+    index = o .index;
+    session = o .session;
+    hasty = (λ x. o .hasty .0 (f .0 x), λ x. f .1 (o .hasty .1 x));
+    astray = (λ x. o .astray .0 (g .0 x), λ x. g .1 (o .astray .1 x));
+    held = h;
+  }
+
+  -- damage is skipped
+  skipped-at : (t : Talk) (p : Phase) (named heard : ℕ) → At es t p named heard → p .state ≡ Damage → At (es ▷ e) t p named (countSum heard 1)
+  unfolding isQuiet isOpen isHeld
+  skipped-at t p named heard a st = record {
+    fits = a .fits;
+    bytes = heard-more heard (a .bytes);
+    calm = λ q. absurd (false≢true (sym (ap isQuiet st) ∙ q));
+    opened = λ o. still-open t p p named (a .opened o) (λ x. x, λ x. x) (λ x. x, λ x. x) (λ h. absurd (false≢true (sym (ap isHeld st) ∙ h)));
+  }
+
+  damage-ends : (t : Talk) (r : Run) → At es t (r .phase) (r .named) (r .heard) → r .phase .state ≡ Damage → Heard t r (still (r .phase))
+  unfolding isQuiet
+  damage-ends t r a st = silent-byte t r (r .phase) (ap isQuiet st) (λ _. skipped-at t (r .phase) (r .named) (r .heard) a st)
+
+  -- a message goes on, is damaged, or ends
+  module _ (t : Talk) (r : Run) (a : At es t (r .phase) (r .named) (r .heard)) (o : Opened es t (r .phase) (r .named)) (h : isHeld (r .phase .state) ≡ true) where
+    abbrev wrong : ℕ
+    wrong = laterReason (r .phase .message) (e .side) (e .value)
+
+    same-reason : (k n : ℕ) → (k ≡ n → ⊥) → (noReason ≡ n → ⊥) → (k ≡ n) ↔ (lossReason (r .phase) noReason ≡ n)
+    same-reason k n x y = (λ q. absurd (x q), λ q. absurd (y (sym (held-loss (r .phase) noReason h) ∙ q)))
+
+    later-damaged : At (es ▷ e) t (damaged (r .phase) wrong) (r .named) (countSum (r .heard) 1)
+    unfolding damaged talking isConnected isQuiet isHeld lossReason
+    later-damaged =
+        let f = a .fits in
+        let x = later-elsewhere (r .phase .message) (e .side) (e .value) in
+        record {
+          fits = record { connected = refl; good = f .good; kb1 = f .kb1; kb2 = f .kb2; windows = f .windows; reply = f .reply; kept = f .kept };
+          bytes = heard-more (r .heard) (a .bytes);
+          calm = λ q. absurd (false≢true q);
+          opened = λ _. still-open t (r .phase) (damaged (r .phase) wrong) (r .named) o
+              (same-reason wrong early (x .0) (λ z. omega arith)) (same-reason wrong stray (x .1) (λ z. omega arith)) (λ y. absurd (false≢true y));
+        }
+
+    abbrev held : Holds es (o .byte .side) (r .phase) (r .named)
+    held = o .held h
+
+    -- its bytes, with this one
+    abbrev slice : List ℕ
+    slice = held .head ∷ (held .rest ++ (e .value ∷ []))
+
+    slice-is : drop (r .named) (heardIn (es ▷ e)) ≡ slice
+    slice-is =
+        ap (drop (r .named)) one-more
+        ∙ drop-append-le (r .named) (heardIn es) (e .value ∷ []) (within (r .named) (heardIn es) (held .head) (held .rest) (held .bytes))
+        ∙ ap (λ (l : List ℕ). l ++ (e .value ∷ [])) (held .bytes)
+
+    side-is : wrong ≡ noReason → e .side ≡ o .byte .side
+    side-is w = later-side (r .phase .message) (e .side) (e .value) w ∙ held .whose
+
+    right-is : wrong ≡ noReason → laterReason (r .phase .message) (o .byte .side) (e .value) ≡ noReason
+    right-is w = sym (ap (λ (x : Side). laterReason (r .phase .message) x (e .value)) (side-is w)) ∙ w
+
+    later-held : wrong ≡ noReason → isSum (r .phase .message .part) ≡ false
+        → At (es ▷ e) t (holding (r .phase) (grown (r .phase .message) (e .value))) (r .named) (countSum (r .heard) 1)
+    unfolding holding talking isConnected isQuiet isHeld lossReason
+    later-held w n =
+        let f = a .fits in
+        record {
+          fits = record { connected = refl; good = f .good; kb1 = f .kb1; kb2 = f .kb2; windows = f .windows; reply = f .reply; kept = f .kept };
+          bytes = heard-more (r .heard) (a .bytes);
+          calm = λ q. absurd (false≢true q);
+          opened = λ _. still-open t (r .phase) (holding (r .phase) (grown (r .phase .message) (e .value))) (r .named) o
+              (same-reason noReason early (λ z. omega arith) (λ z. omega arith)) (same-reason noReason stray (λ z. omega arith) (λ z. omega arith))
+              (λ _. record {
+                head = held .head;
+                rest = held .rest ++ (e .value ∷ []);
+                bytes = slice-is;
+                right = held .right;
+                gone = on (e .value) (held .gone) (right-is w) n;
+                whose = grown-side (r .phase .message) (e .value) ∙ held .whose;
+              });
+        }
+
+    -- ---- the last byte of a message: a frame
+    module _ (w : wrong ≡ noReason) (last : isSum (r .phase .message .part) ≡ true) where
+      abbrev x : Report
+      x = reportOf (hearing r) frameReport noReason
+
+      abbrev framedBytes : List ℕ
+      framedBytes = namedBy (heardIn (es ▷ e)) x
+
+      abbrev latest : List ℕ
+      latest = pendingIn (t .kb1) (t .kb2) (t .frames)
+
+      -- it names the message's bytes
+      names : framedBytes ≡ slice
+      unfolding namedBy reportOf namesBytes
+      names =
+          let size = ap length slice-is in
+          let gap = length-drop (r .named) (heardIn (es ▷ e)) in
+          let more = heard-more (r .heard) (a .bytes) in
+          ap (take (countSum (r .heard) 1 - r .named)) slice-is ∙ take-all (countSum (r .heard) 1 - r .named) slice (omega arith)
+
+      slice-byte : (i : ℕ) → getD slice i 0 < 256
+      slice-byte i = subst (λ (l : List ℕ). getD l i 0 < 256) slice-is (rw (getD-drop (r .named) (heardIn (es ▷ e)) i 0) (byte (r .named + i)))
+
+      -- they are a message that ends here, so `read` takes them
+      message : isMessage (t .kb1) (o .byte .side) slice ≡ true
+      message =
+          rw (eq-eqb (headReason (t .kb1) (held .head)) noReason (sym (ap (λ (k : ℕ). headReason k (held .head)) (a .fits .kb1)) ∙ held .right))
+          (gone-ends (o .byte .side) (begun (o .byte .side) (held .head)) (r .phase .message) (held .rest) (e .value ∷ []) (held .gone)
+          ∙ ends-now (o .byte .side) (r .phase .message) (e .value) (right-is w) last)
+
+      reads : readOf (t .kb1) (t .kb2) framedBytes .no ≡ taken
+      reads =
+          ap (λ (l : List ℕ). readOf (t .kb1) (t .kb2) l .no) names
+          ∙ eqb-true (readOf (t .kb1) (t .kb2) slice .no) taken
+          (sym (message-reads (t .kb1) (t .kb2) (o .byte .side) slice (a .fits .good) slice-byte) ∙ message)
+
+      carries : Carries (r .phase .message) (dataOf (t .kb1) (t .kb2) framedBytes)
+      carries =
+          let c = message-carries (t .kb1) (t .kb2) (o .byte .side) (held .head) (held .rest) (e .value) (a .fits .good) slice-byte message in
+          let d = subst (λ (m : Message). Carries m (dataOf (t .kb1) (t .kb2) slice)) (sym (gone-by (o .byte .side) (begun (o .byte .side) (held .head)) (r .phase .message) (held .rest) (held .gone))) c in
+          subst (λ (l : List ℕ). Carries (r .phase .message) (dataOf (t .kb1) (t .kb2) l)) (sym names) d
+
+      -- the talk with this frame
+      abbrev withFrame : Talk
+      withFrame = record {
+        kb1 = t .kb1;
+        kb2 = t .kb2;
+        frames = t .frames ▸ record { side = e .side; bytes = framedBytes };
+        reply = if isTester (e .side) then First else Further;
+      }
+
+      asked-fits : isTester (e .side) ≡ true → Fits withFrame (asked (r .phase))
+      unfolding asked timed talking isConnected
+      asked-fits c =
+          let f = a .fits in
+          let fr : Frame = record { side = e .side; bytes = framedBytes } in
+          let d = dataOf (t .kb1) (t .kb2) framedBytes in
+          record {
+            connected = refl;
+            good = f .good;
+            kb1 = f .kb1;
+            kb2 = f .kb2;
+            windows = f .windows ∙ sym (windows-asked (t .kb1) (t .kb2) (t .frames) fr c);
+            reply = rw c refl;
+            kept = subst (Kept (requestOf (r .phase .message)) (r .phase .message .seven)) (sym (pending-asked (t .kb1) (t .kb2) (t .frames) fr c))
+                (kept-asked (r .phase .message) d carries);
+          }
+
+      answered-fits : isTester (e .side) ≡ false → stops latest (dataOf (t .kb1) (t .kb2) framedBytes) ≡ false → Fits withFrame (answered (r .phase))
+      unfolding answered timed talking isConnected
+      answered-fits c z =
+          let f = a .fits in
+          let p = r .phase in
+          let fr : Frame = record { side = e .side; bytes = framedBytes } in
+          let d = dataOf (t .kb1) (t .kb2) framedBytes in
+          record {
+            connected = refl;
+            good = f .good;
+            kb1 = f .kb1;
+            kb2 = f .kb2;
+            windows = reply-windows (p .request) (p .asked) (p .start .kb1) latest d (p .message) (p .windows) (f .kept) carries
+                ∙ ap₂ (λ (k : ℕ) (v : Windows). replyWindows k v latest d) (f .kb1) (f .windows) ∙ sym (windows-answered (t .kb1) (t .kb2) (t .frames) fr c);
+            reply = rw c refl;
+            kept = subst (Kept (requestAfter (p .request) (p .message)) (p .asked)) (sym (pending-answered (t .kb1) (t .kb2) (t .frames) fr c))
+                (reply-request (p .request) (p .asked) latest d (p .message) (f .kept) carries z);
+          }
+
+      -- what is shown of its report
+      abbrev Stops : Type 0
+      Stops = stops latest (dataOf (t .kb1) (t .kb2) framedBytes) ≡ true
+
+      frame-told : (e .side ≡ Unit → Stops → Stopped all) → Told es e all t x
+      unfolding reportOf namesBytes
+      frame-told f =
+          let never : (k : ℕ) → (noReason ≡ k → ⊥) → lossReason (r .phase) noReason ≡ k → ⊥ = λ k n q. n (sym (held-loss (r .phase) noReason h) ∙ q) in
+          record {
+            reads = λ _. reads;
+            turns = λ _. turned es e all t (r .phase) (r .named) x o refl
+                (λ q. absurd (let z = q .0 in omega arith), λ q. absurd (never early (λ z. omega arith) q))
+                (λ q. absurd (let z = q .0 in omega arith), λ q. absurd (never stray (λ z. omega arith) q));
+            answers = λ n. absurd (omega arith);
+            stops = λ _ u z. f u z;
+          }
+
+      abbrev behindFrame : Phase → Run
+      behindFrame q = moved (hearing r) (makes frameReport noReason q)
+
+      abbrev y : Phase → Report
+      y q = reportOf (behindFrame q) downReport stopped
+
+      stop-told : (q : Phase) → Among x all → e .side ≡ Unit → Stops → Told es e all t (y q)
+      unfolding reportOf
+      stop-told q i u z = record {
+        reads = λ n. absurd (omega arith);
+        turns = λ n. absurd (⊎-elim (λ k. omega arith) (λ k. omega arith) n);
+        answers = λ _ _. record { report = x; made = i; number = refl; unit = u; stop = z };
+        stops = λ n. absurd (omega arith);
+      }
+
+      -- the session goes on with it
+      frame-at : (q : Phase) → q .state ≡ Quiet → Fits withFrame q → At (es ▷ e) withFrame q (countSum (r .heard) 1) (countSum (r .heard) 1)
+      unfolding isOpen
+      frame-at q st f = record {
+        fits = f;
+        bytes = heard-more (r .heard) (a .bytes);
+        calm = λ _. refl;
+        opened = λ z. absurd (false≢true (sym (ap isOpen st) ∙ z));
+      }
+
+      frame-on : (q : Phase) → q .state ≡ Quiet → Fits withFrame q → (e .side ≡ Unit → Stops → ⊥)
+          → Ends es e all t (tells (hearing r) (makes frameReport noReason q) ++ tells (behindFrame q) (still q)) (moved (behindFrame q) (still q))
+      unfolding tells moved told reportOf namesBytes isAmong talkAfter afterReport
+      frame-on q st f n =
+          still-up refl (each-both (Told es e all t) (x ∷ []) [] (each-one (Told es e all t) x (frame-told (λ u z. absurd (n u z)))) (each-none (Told es e all t)))
+          (λ _. frame-at q st f)
+
+      frame-over : (q : Phase) → e .side ≡ Unit → Stops
+          → Each (λ (z : Report). Among z all) (tells (hearing r) (makes frameReport noReason q) ++ tells (behindFrame q) (makes downReport stopped down))
+          → Ends es e all t (tells (hearing r) (makes frameReport noReason q) ++ tells (behindFrame q) (makes downReport stopped down)) (moved (behindFrame q) (makes downReport stopped down))
+      unfolding tells moved told reportOf isAmong down isConnected
+      frame-over q u z i =
+          over refl
+          (each-both (Told es e all t) (x ∷ []) (y q ∷ [])
+          (each-one (Told es e all t) x (frame-told (λ _ _. record { report = y q; made = i (y q) (later first); number = refl; reason = refl })))
+          (each-one (Told es e all t) (y q) (stop-told q (i x first) u z))) refl
+
+      off-second : (b c : Bool) → (b && c) ≡ false → b ≡ true → c ≡ false
+      off-second true c n k = n
+      off-second false c n k = absurd (false≢true k)
+
+      frame-there : (q : Phase) → behindFrame q .phase ≡ q
+      unfolding moved told
+      frame-there q = refl
+
+      -- by whether a stop was answered
+      frame-by : (q : Phase) → q .state ≡ Quiet → (isStopped (q .request) ≡ true → (e .side ≡ Unit) × Stops)
+          → (isStopped (q .request) ≡ false → Fits withFrame q × (e .side ≡ Unit → Stops → ⊥)) → Heard t r (makes frameReport noReason q)
+      unfolding moved told afterStop isQuiet
+      frame-by q st f g =
+          by-test (λ (m : Move). Each (λ (z : Report). Among z all) (tells (hearing r) (makes frameReport noReason q) ++ tells (behindFrame q) m)
+          → Ends es e all t (tells (hearing r) (makes frameReport noReason q) ++ tells (behindFrame q) m) (moved (behindFrame q) m))
+          (isQuiet (q .state) && isStopped (q .request)) {x = makes downReport stopped down} {y = still q}
+          (λ c i. let k = f (and-split (isQuiet (q .state)) (isStopped (q .request)) c .1) in frame-over q (k .0) (k .1) i)
+          (λ c _. let k = g (off-second (isQuiet (q .state)) (isStopped (q .request)) c (ap isQuiet st)) in frame-on q st (k .0) (k .1))
+
+      frame-asked : isTester (e .side) ≡ true → Heard t r (makes frameReport noReason (asked (r .phase)))
+      unfolding asked timed talking
+      frame-asked c =
+          frame-by (asked (r .phase)) refl (λ s. absurd (false≢true (sym (request-not (r .phase .message)) ∙ s)))
+          (λ _. (asked-fits c, λ u _. tester-unit (e .side) c u))
+
+      frame-answered : isTester (e .side) ≡ false → Heard t r (makes frameReport noReason (answered (r .phase)))
+      unfolding answered timed talking
+      frame-answered c =
+          let p = r .phase in
+          let d = dataOf (t .kb1) (t .kb2) framedBytes in
+          let k = reply-stops (p .request) (p .asked) latest d (p .message) (a .fits .kept) carries in
+          frame-by (answered p) refl (λ s. (unit-side (e .side) c sided, sym k ∙ s))
+          (λ s. (answered-fits c (sym k ∙ s), λ _ z. false≢true (sym s ∙ (k ∙ z))))
+
+      frame-ends : Heard t r (makes frameReport noReason (framed (r .phase)))
+      unfolding framed
+      frame-ends =
+          let s = ap isTester (later-side (r .phase .message) (e .side) (e .value) w) in
+          by-test (λ (q : Phase). Heard t r (makes frameReport noReason q)) (isTester (r .phase .message .side))
+          {x = asked (r .phase)} {y = answered (r .phase)} (λ c. frame-asked (s ∙ c)) (λ c. frame-answered (s ∙ c))
+
+    holding-open : (m : Message) → isQuiet (holding (r .phase) m .state) ≡ false
+    unfolding holding talking isQuiet
+    holding-open m = refl
+
+    damaged-open : (why : ℕ) → isQuiet (damaged (r .phase) why .state) ≡ false
+    unfolding damaged talking isQuiet
+    damaged-open why = refl
+
+    -- ANY LATER BYTE OF A MESSAGE
+    later-ends : Heard t r (laterByte (r .phase) (e .side) (e .value))
+    unfolding laterByte
+    later-ends =
+        let m = r .phase .message in
+        by-test (λ (x : Move). Heard t r x) (not (eqb wrong noReason)) {x = still (damaged (r .phase) wrong)}
+        (λ _. silent-byte t r (damaged (r .phase) wrong) (damaged-open wrong) (λ _. later-damaged))
+        (λ c.
+        let z = eqb-true wrong noReason (not-false (eqb wrong noReason) c) in
+        by-test (λ (x : Move). Heard t r x) (isSum (m .part)) {x = makes frameReport noReason (framed (r .phase))} {y = still (holding (r .phase) (grown m (e .value)))}
+        (λ s. frame-ends z s) (λ s. silent-byte t r (holding (r .phase) (grown m (e .value))) (holding-open (grown m (e .value))) (λ _. later-held z s)))
+
+  -- ---- ANY BYTE OF A SESSION
+  byte-in : (st : State) (t : Talk) (r : Run) → r .phase .state ≡ st → At es t (r .phase) (r .named) (r .heard)
+      → Heard t r (byteIn st (r .phase) (e .side) (e .value) mark (e .start))
+  unfolding isConnected isQuiet isHeld isOpen
+  byte-in Down t r st a = absurd (false≢true (sym (ap isConnected st) ∙ a .fits .connected))
+  byte-in Starting t r st a = absurd (false≢true (sym (ap isConnected st) ∙ a .fits .connected))
+  byte-in Quiet t r st a = first-ends t r a (ap isQuiet st)
+  byte-in Held t r st a = later-ends t r a (a .opened (ap isOpen st)) (ap isHeld st)
+  byte-in Damage t r st a = damage-ends t r a st
+
+  pub byte-ends : (t : Talk) (r : Run) → At es t (r .phase) (r .named) (r .heard) → Each (λ (x : Report). Among x all) (byteTells r e mark)
+      → Ends es e all t (byteTells r e mark) (byteHeard r e mark)
+  unfolding byteTells byteHeard afterByte
+  byte-ends t r a = byte-in (r .phase .state) t r refl a
+
+  -- a byte of a link that is down
+  record Outside (t : Talk) (r : Run) (m : Move) : Type 0 where
+    each : Each (Told es e all t) (heardTells r m)
+    off : isConnected (heardRun r m .phase .state) ≡ false
+
+  outside : (t : Talk) (r : Run) → Outside t r (makes outsideReport noReason down)
+  unfolding tells moved told reportOf afterStop down isQuiet isConnected
+  outside t r = record {
+    each = each-both (Told es e all t) (_ ∷ []) [] (each-one (Told es e all t) _ (plain es e all t _ (λ n. omega arith) (λ n. omega arith) (λ n. absurd (omega arith)))) (each-none (Told es e all t));
+    off = refl;
+  }
+
+  byte-down : afterByte down (e .side) (e .value) mark (e .start) ≡ makes outsideReport noReason down
+  unfolding afterByte down
+  byte-down = refl
+
+  pub byte-outside : (t : Talk) (r : Run) → r .phase ≡ down → Each (Told es e all t) (byteTells r e mark) × (isConnected (byteHeard r e mark .phase .state) ≡ false)
+  unfolding byteTells byteHeard
+  byte-outside t r q =
+      let x = subst (Outside t r) (sym (ap (λ (p : Phase). afterByte p (e .side) (e .value) mark (e .start)) q ∙ byte-down)) (outside t r) in
+      (x .each, x .off)

@@ -1,0 +1,61 @@
+-- Reports of frames and of damage, by the history: a frame is one that `read` takes under the session's key bytes; a report of either kind names bytes
+-- from the first byte of a message on, which was early or stray exactly if the report says so; and the link is stopped exactly by a unit frame that
+-- answers a stop.
+-- Assumes nothing.
+use mathlib.Core.Bool.{Bool, true, false}
+use mathlib.Core.List.{List}
+use mathlib.Core.Path.{_≡_, refl}
+use mathlib.Core.Logic.{_↔_, _⊎_, inl, ⊎-elim}
+use Rattle.base.specs.Reports.{frameReport, damageReport}
+use Rattle.events.specs.declared.Event.{Event}
+use Rattle.phases.specs.Phases.{isConnected}
+use Rattle.reports.specs.declared.Report.{Report}
+use Rattle.reports.specs.declared.Run.{Run}
+use Rattle.demands.specs.Logs.{Log, _▷_, InBytes}
+use Rattle.demands.specs.Histories.{ourStep, after, reportsTo, Among}
+use Rattle.demands.specs.Sessions.{Talk, Session, Reads, Turns}
+use Rattle.demands.proofs.Saying.{Each}
+use Rattle.demands.proofs.Stopping.{Stopped, AnswersStop}
+use Rattle.demands.proofs.Going.{Told}
+use Rattle.demands.proofs.Ending.{Ends, still-up, over}
+use Rattle.demands.proofs.Course.{event-ends, session-at}
+use Rattle.demands.proofs.Session.{SomeSession, session-exactly}
+use Rattle.demands.proofs.Unconnected.{none-unconnected}
+
+each-told : (es : Log) (e : Event) (all : List Report) (t : Talk) (rs : List Report) (r : Run) → Ends es e all t rs r → Each (Told es e all t) rs
+each-told es e all t rs r (still-up n f a) = f
+each-told es e all t rs r (over n f c) = f
+
+-- in a session
+told-in : (es : Log) (e : Event) (t : Talk) → InBytes (es ▷ e) → Session ourStep es t → Each (Told es e (reportsTo ourStep es e) t) (reportsTo ourStep es e)
+unfolding InBytes
+told-in es e t b s = each-told es e (reportsTo ourStep es e) t (reportsTo ourStep es e) _ (event-ends es e t b (session-at (b .0) s))
+
+-- a report 1 or 2 comes in a session
+comes-in : (es : Log) (e : Event) (r : Report) → InBytes (es ▷ e) → Among r (reportsTo ourStep es e) → (r .number ≡ frameReport) ⊎ (r .number ≡ damageReport) → SomeSession es
+unfolding InBytes
+comes-in es e r b i n = by-state (isConnected (after ourStep es .link .phase .state)) refl
+  where
+    by-state : (c : Bool) → isConnected (after ourStep es .link .phase .state) ≡ c → SomeSession es
+    by-state true c = session-exactly es (b .0) .0 c
+    by-state false c = let x = none-unconnected es e c r i in absurd (⊎-elim (x .0) (x .1) n)
+
+-- A FRAME IS ONE THAT `read` TAKES
+pub frames-read : (es : Log) (e : Event) (r : Report) → InBytes (es ▷ e) → Among r (reportsTo ourStep es e) → r .number ≡ frameReport → Reads ourStep es e r
+frames-read es e r b i n =
+    let x = comes-in es e r b i (inl n) in
+    record { talk = x .talk; session = x .session; reads = told-in es e (x .talk) b (x .session) r i .reads n }
+
+-- A MESSAGE'S FIRST BYTE WAS EARLY OR STRAY exactly if its report says so
+pub turns-exactly : (es : Log) (e : Event) (r : Report) → InBytes (es ▷ e) → Among r (reportsTo ourStep es e)
+    → (r .number ≡ frameReport) ⊎ (r .number ≡ damageReport) → Turns ourStep (es ▷ e) r
+turns-exactly es e r b i n =
+    let x = comes-in es e r b i n in
+    told-in es e (x .talk) b (x .session) r i .turns n
+
+-- THE LINK IS STOPPED exactly by such a frame
+pub stops-exactly : (es : Log) (e : Event) (t : Talk) → InBytes (es ▷ e) → Session ourStep es t → Stopped (reportsTo ourStep es e) ↔ AnswersStop t es e
+stops-exactly es e t b s = (
+  λ x. told-in es e t b s (x .report) (x .made) .answers (x .number) (x .reason),
+  λ x. told-in es e t b s (x .report) (x .made) .stops (x .number) (x .unit) (x .stop),
+)
