@@ -146,7 +146,8 @@ completes-connects es e q =
     )
 
 -- ---- the reports of an event that is taken, and of one that is refused
-pub reports-taken : (es : Log) (e : Event) → numberAfter (takenOf es) e ≡ taken → reportsTo ourStep es e ≡ listed (handled (after ourStep es .link) e .reports)
+pub reports-taken : (es : Log) (e : Event) → numberAfter (takenOf es) e ≡ taken
+    → reportsTo ourStep es e ≡ listed (handled (after ourStep es .link) e .reports)
 unfolding takenBy
 reports-taken es e q = ap (λ (a : Answer). listed (a .reports)) (answer-taken es e q)
 

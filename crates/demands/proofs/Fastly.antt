@@ -131,7 +131,8 @@ first : (m : Micros) (w : Event) → w .kind ≡ WakeUp → Starts WakeUp m w �
 unfolding fastStart
 first m w k s = q0 k (low-of w (s .1))
 
-one-more : (w : Event) (bs : Log) (s : Start) (b : Event) → SoFar w bs s → Fits s (fallBy WakeUp (w .start)) (lastEnd w bs) b → isLast (s .stage) ≡ false
+one-more : (w : Event) (bs : Log) (s : Start) (b : Event) → SoFar w bs s → Fits s (fallBy WakeUp (w .start)) (lastEnd w bs) b
+    → isLast (s .stage) ≡ false
     → SoFar w (bs ▷ b) (onward s (b .value))
 unfolding dueAt fits originOf roleAt isOpening nextStage onward sumAfter isPairOne isPairTwo isRequestEnd isLast isEnding byteSum
 one-more w bs s b (q0 k l) g z =

@@ -137,9 +137,11 @@ module _ (m : Micros) (a : Event) (bs : Log) (s : Start) (b : Event) (mark : Mic
 -- what holds at the start and is kept by each byte that is right holds of every run; and what the last byte makes of it is so of each complete one
 module _ (kind : Kind) (SoFar : Event → Log → Start → Type 0) (Good : Event → Log → Start → Event → Type 0)
     (first : (m : Micros) (a : Event) → a .kind ≡ kind → Starts kind m a → SoFar a none (firstBy kind (a .value)))
-    (one-more : (a : Event) (bs : Log) (s : Start) (b : Event) → SoFar a bs s → Fits s (fallBy kind (a .start)) (lastEnd a bs) b → isLast (s .stage) ≡ false
+    (one-more : (a : Event) (bs : Log) (s : Start) (b : Event) → SoFar a bs s → Fits s (fallBy kind (a .start)) (lastEnd a bs) b
+    → isLast (s .stage) ≡ false
     → SoFar a (bs ▷ b) (onward s (b .value)))
-    (finish : (a : Event) (bs : Log) (s : Start) (b : Event) → SoFar a bs s → Fits s (fallBy kind (a .start)) (lastEnd a bs) b → isLast (s .stage) ≡ true
+    (finish : (a : Event) (bs : Log) (s : Start) (b : Event) → SoFar a bs s → Fits s (fallBy kind (a .start)) (lastEnd a bs) b
+    → isLast (s .stage) ≡ true
     → Good a bs s b) where
   fits-by : (a : Event) (bs : Log) (b : Event) → a .kind ≡ kind → Hears a bs b → Fits (startOn a bs) (fallBy kind (a .start)) (lastEnd a bs) b
   fits-by a bs b k h = subst (λ (x : Kind). Fits (startOn a bs) (fallBy x (a .start)) (lastEnd a bs) b) k (fits-of a bs b h)

@@ -75,7 +75,8 @@ module _ (l : Link) (log : Log) (e : Event) (t : Behind l log e) (inv : Inv l lo
       ∙ shut-none r restarted (passed-flows (begun l e) (l .mark) (e .start) holds .holds)
       ∙ shut-heard r restarted ∙ passed-heard (begun l e) (l .mark) (e .start) ∙ heard
 
-told-by : (l : Link) (log : Log) (e : Event) → Behind l log e → Inv l log → l .heard ≡ length (heardOf log) → Holds (l .phase .state) (l .named) (l .heard)
+told-by : (l : Link) (log : Log) (e : Event) → Behind l log e → Inv l log → l .heard ≡ length (heardOf log)
+    → Holds (l .phase .state) (l .named) (l .heard)
     → Told l log → (a : Event) (before bs : Log) → Since a before (log ▷ e) bs → Runs (markOf before) a bs
     → Open (phaseOn a bs) (lastEnd a bs) (e .end) → handled l e .named ≡ length (heardOf before)
 unfolding begun

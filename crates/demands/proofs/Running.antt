@@ -197,7 +197,8 @@ heard-in r e mark i =
     let r1 = moved (hearing r) m1 in
     left-alone r1 (afterStop (r1 .phase)) (stop-in (r1 .phase)) i ∙ moved-phase (hearing r) m1
 
-pub heard-goes : (r : Run) (e : Event) (mark fall : Micros) (s : Start) → afterByte (r .phase) (e .side) (e .value) mark (e .start) ≡ still (starting fall s)
+pub heard-goes : (r : Run) (e : Event) (mark fall : Micros) (s : Start)
+    → afterByte (r .phase) (e .side) (e .value) mark (e .start) ≡ still (starting fall s)
     → byteHeard r e mark ≡ withPhase (hearing r) (starting fall s)
 unfolding byteHeard moved afterStop starting isQuiet
 heard-goes r e mark fall s h = rw h refl
@@ -218,7 +219,8 @@ module _ (l : Link) (log : Log) (e : Event) (t : Behind l log e) (inv : Inv l lo
   on-mark g = t .mark ∙ since-mark (runs-mark (markOf (g .before)) (g .start) (g .bytes) (g .runs)) (g .since)
 
   -- ---- forth
-  forth-start : handled l e ≡ moved (shut r restarted) (startMove (e .kind) e (l .mark)) → In (handled l e .phase) → Going (handled l e .phase) (log ▷ e)
+  forth-start : handled l e ≡ moved (shut r restarted) (startMove (e .kind) e (l .mark)) → In (handled l e .phase)
+      → Going (handled l e .phase) (log ▷ e)
   forth-start h i =
       let q = ap (λ (x : Run). x .phase) h ∙ moved-phase (shut r restarted) (startMove (e .kind) e (l .mark)) in
       let s = move-in (e .kind) e (l .mark) (carried _ _ q i) in
@@ -315,7 +317,8 @@ module _ (l : Link) (log : Log) (e : Event) (t : Behind l log e) (inv : Inv l lo
     pub was : In (l .phase)
     pub window : Open (l .phase) (l .mark) (e .start)
 
-  pub back-open : (a : Event) (before bs : Log) → Since a before log bs → Runs (markOf before) a bs → Open (phaseOn a bs) (lastEnd a bs) (e .start) → At a bs
+  pub back-open : (a : Event) (before bs : Log) → Since a before log bs → Runs (markOf before) a bs
+      → Open (phaseOn a bs) (lastEnd a bs) (e .start) → At a bs
   back-open a before bs s u o =
       let p = inv .back a before bs s u (open-early (phaseOn a bs) (lastEnd a bs) (l .clock) (e .start) (t .later) o) in
       let m = t .mark ∙ since-mark (runs-mark (markOf before) a bs u) s in

@@ -49,7 +49,8 @@ first : (m : Micros) (a : Event) → a .kind ≡ Address → Starts Address m a 
 unfolding slowStart
 first m a k s = s0
 
-one-more : (a : Event) (bs : Log) (s : Start) (b : Event) → SoFar a bs s → Fits s (fallBy Address (a .start)) (lastEnd a bs) b → isLast (s .stage) ≡ false
+one-more : (a : Event) (bs : Log) (s : Start) (b : Event) → SoFar a bs s → Fits s (fallBy Address (a .start)) (lastEnd a bs) b
+    → isLast (s .stage) ≡ false
     → SoFar a (bs ▷ b) (onward s (b .value))
 unfolding dueAt fits complement originOf roleAt isOpening nextStage onward sumAfter isPairOne isPairTwo isRequestEnd isLast isEnding
 one-more a bs s b s0 f z = let c = comes s _ (a .end) b f (f .later) in s1 (c .side, c .window, eqb-true (b .value) 0x55 (c .value))
