@@ -3,13 +3,14 @@
 -- 01's rules give."
 -- The statements; the work is in the files that each cites. Assumes nothing.
 use Prim.Native.Nat.{ℕ, _<_}
-use mathlib.Core.Bool.{true, _&&_}
+use mathlib.Core.Bool.{true, false, _&&_}
 use mathlib.Core.List.{List}
-use mathlib.Core.Logic.{_↔_}
+use mathlib.Core.Logic.{_↔_, _⊎_}
 use mathlib.Core.Path.{_≡_}
 use lib.Dec.{eqb}
 use lib.ListN.{getD}
 use Rattle.base.specs.Numbers.{taken}
+use Rattle.base.specs.Reports.{frameReport, damageReport, connectedReport}
 use Rattle.keys.specs.Keys.{goodPair}
 use Rattle.keys.proofs.Eighteen.{eighteen, isIn, good-pairs}
 use Rattle.timing.specs.Timing.{p2Half, normalSet, extendedSet, decodedOf, notEncoded, encodedOf}
@@ -24,8 +25,23 @@ use Rattle.frame.specs.declared.Plan.{Plan}
 use Rattle.frame.specs.declared.Built.{Built}
 use Rattle.frame.proofs.RoundTrip.{SumsUp, BuiltReadsBack, built-reads-back}
 use Rattle.frame.proofs.WellRead.{IsFrame, reads-exactly, read-sums-up}
+use Rattle.events.specs.declared.Event.{Event}
 use Rattle.events.specs.declared.Side.{Side}
 use Rattle.talk.proofs.Frames.{isMessage, message-reads}
+use Rattle.phases.specs.Phases.{isConnected}
+use Rattle.reports.specs.declared.Report.{Report}
+use Rattle.demands.specs.Logs.{Log, _▷_, InBytes, numberAfter, takenOf}
+use Rattle.demands.specs.Histories.{ourStep, after, answerTo, reportsTo, Says, Among}
+use Rattle.demands.specs.Connecting.{Connects}
+use Rattle.demands.specs.Sessions.{Talk, Session, IsIn, Reads, Turns}
+use Rattle.demands.proofs.Exactly as exactly
+use Rattle.demands.proofs.Becomes as becomes
+use Rattle.demands.proofs.Names as names
+use Rattle.demands.proofs.Names.{Connected}
+use Rattle.demands.proofs.Session as session
+use Rattle.demands.proofs.Session.{SomeSession}
+use Rattle.demands.proofs.Stopping.{Stopped, AnswersStop}
+use Rattle.demands.proofs.Turning as turning
 
 -- ---- a. KEY BYTES, FRAMES, TIMING CODES: what the crates below have proved, in one place
 pub record Foundation : Type 0 where
@@ -66,3 +82,49 @@ foundation = record {
   normal = normal-codes;
   extended = extended-codes;
 }
+
+-- ---- b. THE LINK CONNECTS EXACTLY when every byte, complement and window of an initialization holds
+-- Over every list of events from a fresh link: the next event is answered with report 3 exactly if it is taken and completes an initialization. Which
+-- events are taken, and what completes one, is said of the events alone (specs/Logs.antt, Connecting.antt, Starts.antt).
+pub connects-exactly : (es : Log) (e : Event)
+    → Says connectedReport (reportsTo ourStep es e) ↔ ((numberAfter (takenOf es) e ≡ taken) × Connects (takenOf es) e)
+connects-exactly = exactly.connects-exactly
+
+-- In the link's own words: it was not connected, and is connected after the event, exactly then.
+pub becomes-connected-exactly : (es : Log) (e : Event)
+    → ((isConnected (after ourStep es .link .phase .state) ≡ false) × (isConnected (after ourStep (es ▷ e) .link .phase .state) ≡ true))
+    ↔ ((numberAfter (takenOf es) e ≡ taken) × Connects (takenOf es) e)
+becomes-connected-exactly = becomes.becomes-connected-exactly
+
+-- That report is the only one of its event and names all bytes of the initialization and no other; the link then has its key bytes, which are good, and
+-- the windows of the set that KB1 names.
+pub connects-names : (es : Log) (e : Event) → numberAfter (takenOf es) e ≡ taken → (c : Connects (takenOf es) e)
+    → Connected (takenOf es) e c (answerTo ourStep es e)
+connects-names = names.connects-names
+
+-- ---- c. WHAT THE LINK REPORTS AS 1 is a frame that `read` takes, and its timing is the one that the frames say
+-- A session of the history lasts from an event that completes an initialization until a report 7; the link is connected exactly while one lasts.
+-- (`InBytes`: values of events are bytes, as they are in the code.)
+pub session-exactly : (es : Log) → InBytes es → (isConnected (after ourStep es .link .phase .state) ≡ true) ↔ SomeSession es
+session-exactly = session.session-exactly
+
+-- In it, the link's key bytes are good and the session's. Its windows are KB1's set, the allowed codes of the latest tester frame, or as before, as
+-- `windowsIn` reads it off the session's frames; the reply that may come is the one that the session's last report leaves.
+pub session-link : (es : Log) (t : Talk) → InBytes es → Session ourStep es t → IsIn t (after ourStep es .link)
+session-link = session.session-link
+
+-- Each report 1 is made in a session and names bytes that `read` takes as a frame under the session's key bytes.
+pub frames-read : (es : Log) (e : Event) (r : Report) → InBytes (es ▷ e) → Among r (reportsTo ourStep es e) → r .number ≡ frameReport → Reads ourStep es e r
+frames-read = turning.frames-read
+
+-- ---- d. DAMAGE, STRAY AND EARLY
+-- A report 1 or 2 names bytes from the first byte of a message on, and it is a damage with reason 3, or 4, exactly if that byte was early, or stray, by
+-- its side and its gap under the windows in force then.
+pub turns-exactly : (es : Log) (e : Event) (r : Report) → InBytes (es ▷ e) → Among r (reportsTo ourStep es e)
+    → (r .number ≡ frameReport) ⊎ (r .number ≡ damageReport) → Turns ourStep (es ▷ e) r
+turns-exactly = turning.turns-exactly
+
+-- ---- e. THE OTHER REPORTS of a link
+-- The link is stopped (report 7, reason 1) exactly by a frame from the unit that answers a stop.
+pub stops-exactly : (es : Log) (e : Event) (t : Talk) → InBytes (es ▷ e) → Session ourStep es t → Stopped (reportsTo ourStep es e) ↔ AnswersStop t es e
+stops-exactly = turning.stops-exactly

@@ -120,7 +120,7 @@ slow-connects = record {
 }
 
 -- ---- all these events are taken; so the last one is answered with report 3, and with no other
-fast-number : numberAfter (takenOf fastEvents) fastLast ≡ taken
+pub fast-number : numberAfter (takenOf fastEvents) fastLast ≡ taken
 unfolding takenOf numberAfter clockOf countOf refusal isUnknown isTooLate isOutOfOrder isOther isByte isNobody
 fast-number = refl
 

@@ -3,15 +3,17 @@
 -- Assumes nothing.
 use Prim.Native.Nat.{ℕ, _+_, _<_}
 use mathlib.Core.Bool.{Bool, true, false, _&&_, false≢true}
-use mathlib.Core.List.{List, [], _∷_, _++_}
-use mathlib.Core.Logic.{_⊎_, ⊎-elim}
+use mathlib.Core.List.{List, [], _∷_}
+use mathlib.Core.Logic.{_↔_, _⊎_, ⊎-elim}
 use mathlib.Core.Path.{_≡_, refl, sym, ap, _∙_}
 use native.Mathlib.Omega.{arith}
 use borrow.Author.Tests.{eq-eqb}
 use lib.Dec.{eqb}
 use lib.ListN.{length, getD}
 use Rattle.base.specs.Sums.{countSum, byteSum}
-use Rattle.base.specs.Reports.{frameReport}
+use Rattle.base.specs.Numbers.{taken}
+use Rattle.base.specs.Reports.{frameReport, connectedReport}
+use Rattle.base.proofs.Tests.{by-test}
 use Rattle.units.specs.Units.{micros}
 use Rattle.keys.specs.Keys.{goodPair, lengthInFormat, extraLength, noAddresses, withAddresses, isExtended, takesForm}
 use Rattle.timing.specs.Timing.{setOf, minOf, p3MaxOf, p2Half, p2MaxOf, windowsBy, isBelow, isAllowed, decodedOf, sameWindows, isPassed, isUnlimited}
@@ -19,7 +21,7 @@ use Rattle.keys.specs.declared.Form.the-variants.{Plain}
 use Rattle.frame.specs.Layout.{formatForm}
 use Rattle.frame.proofs.RoundTrip.{ReadsBack}
 use Rattle.events.specs.Events.{isByte, isOther, isNobody, isTester, isUnit, sameSide, marks, isUnknown, isTooLate, isOutOfOrder, refusal}
-use Rattle.events.specs.declared.Kind.the-variants.{WakeUp, Byte, Tick}
+use Rattle.events.specs.declared.Kind.the-variants.{Tick}
 use Rattle.events.specs.declared.Side.{Side}
 use Rattle.events.specs.declared.Side.the-variants.{Tester, Unit, Nobody}
 use Rattle.events.specs.declared.Event.{Event}
@@ -34,42 +36,37 @@ use Rattle.moves.specs.Moves.{startingFast, startByte, reasonAtFirst, firstByte
 use Rattle.reports.specs.Reporting.{namesBytes, reportOf, appended, listed, told, moved}
 use Rattle.reports.specs.Counting.{zeroCounts, isFull, countedOne, countedAll, countedByte, countedEvent}
 use Rattle.reports.specs.declared.Report.{Report}
+use Rattle.reports.specs.declared.Reports.{Reports}
 use Rattle.reports.specs.declared.Counts.{Counts}
 use Rattle.link.specs.Handling.{freshLink, passed, shut, byteHeard, acted, begun, handled, markAfter, linkAfter}
 use Rattle.link.specs.Stepping.{numberOf, refusedBy, takenBy, answerOf, countsAfter, stepOf}
 use Rattle.demands.specs.Logs.{Log, none, _▷_, heardOf, countOf, clockOf, numberAfter, takenOf, heardIn}
 use Rattle.link.specs.declared.Link.{Link}
 use Rattle.demands.specs.Refusals.{Above, Numbered}
-use Rattle.demands.specs.Histories.{Step, after, reportsOf}
-use Rattle.demands.specs.Accounts.{InTurn, end, then, bytesIn, reportsIn, countsOf, Accounted}
-use Rattle.demands.specs.Wrong.{refusing, unchanged, idling, inventing, behind, twice}
+use Rattle.demands.specs.Histories.{Step, after, reportsTo, reportsOf, isAmong, Says}
+use Rattle.demands.specs.Connecting.{Connects}
+use Rattle.demands.specs.Accounts.{InTurn, end, then, reportsIn, countsOf, Accounted}
+use Rattle.demands.proofs.Example.{byteFrom, fastEvents, fastLast, fast-connects, fast-number}
+use Rattle.demands.specs.Wrong.{refusing, outside, unchanged, idling, inventing, behind, twice}
 
 -- ---- some events
-abbrev byteFrom : Side → ℕ → ℕ → Event
-byteFrom side value start = record { start = micros start; end = micros (start + 960); kind = Byte; side = side; value = value }
-
--- bytes of a side behind a log, so many microseconds from one start to the next
-abbrev bytesFrom : Side → ℕ → ℕ → List ℕ → Log → Log
-bytesFrom side every start [] log = log
-bytesFrom side every start (v ∷ vs) log = bytesFrom side every (start + every) vs (log ▷ byteFrom side v start)
-
-abbrev wakeUp : Event
-wakeUp = record { start = micros 300_000; end = micros 325_000; kind = WakeUp; side = Nobody; value = 0 }
-
 -- a tick, and two bytes that a fresh link hears
-abbrev aTick : Log
-aTick = none ▷ record { start = micros 0; end = micros 0; kind = Tick; side = Nobody; value = 0 }
+abbrev tick : Event
+tick = record { start = micros 0; end = micros 0; kind = Tick; side = Nobody; value = 0 }
 
 abbrev twoBytes : Log
-twoBytes = bytesFrom Tester 1_000 0 (0x12 ∷ 0x34 ∷ []) none
+twoBytes = none ▷ byteFrom Tester 0x12 0 ▷ byteFrom Tester 0x34 1_000
+
+-- bytes of a side behind a log, with no gap between
+abbrev bytesFrom : Side → ℕ → List ℕ → Log → Log
+bytesFrom side start [] log = log
+bytesFrom side start (v ∷ vs) log = bytesFrom side (start + 960) vs (log ▷ byteFrom side v start)
 
 -- document 01's initialization, a request for new timing, and its reply: 83 03 and five codes, C3 03
 abbrev retiming : Log
 retiming =
-    bytesFrom Unit 960 500_160 (0x02 ∷ 0xC3 ∷ 0x03 ∷ 0xC8 ∷ [])
-    (bytesFrom Tester 960 466_520 (0x07 ∷ 0x83 ∷ 0x03 ∷ 0x32 ∷ 0x02 ∷ 0x6E ∷ 0x14 ∷ 0x0C ∷ 0x4F ∷ [])
-    (bytesFrom Unit 960 404_800 (0x83 ∷ 0xF1 ∷ 0x11 ∷ 0xC1 ∷ 0xEF ∷ 0x8F ∷ 0xC4 ∷ [])
-    (bytesFrom Tester 5_960 350_000 (0x81 ∷ 0x11 ∷ 0xF1 ∷ 0x81 ∷ 0x04 ∷ []) (none ▷ wakeUp))))
+    bytesFrom Unit 500_160 (0x02 ∷ 0xC3 ∷ 0x03 ∷ 0xC8 ∷ [])
+    (bytesFrom Tester 466_520 (0x07 ∷ 0x83 ∷ 0x03 ∷ 0x32 ∷ 0x02 ∷ 0x6E ∷ 0x14 ∷ 0x0C ∷ 0x4F ∷ []) (fastEvents ▷ fastLast))
 
 -- ---- parts of demand 3, as tests
 abbrev isInTurn : ℕ → List Report → Bool
@@ -99,7 +96,7 @@ is-fair step es a =
 record Unfair : Type 0 where
   of-unchanged : fair unchanged twoBytes ≡ false
   of-idling : fair idling twoBytes ≡ false
-  of-inventing : fair inventing aTick ≡ false
+  of-inventing : fair inventing (none ▷ tick) ≡ false
   of-behind : fair behind retiming ≡ false
   of-twice : fair twice retiming ≡ false
   -- and the right one, of the same events
@@ -133,7 +130,7 @@ idling-shut d = false≢true (sym (unfair .of-idling) ∙ is-fair idling twoByte
 
 -- .. a link that shows invented counts: after a tick it counts seven bytes
 pub inventing-shut : DemandThree inventing → ⊥
-inventing-shut d = false≢true (sym (unfair .of-inventing) ∙ is-fair inventing aTick (d aTick))
+inventing-shut d = false≢true (sym (unfair .of-inventing) ∙ is-fair inventing (none ▷ tick) (d (none ▷ tick)))
 
 -- .. a link whose frame count is one behind after a timing change
 pub behind-shut : DemandThree behind → ⊥
@@ -147,9 +144,6 @@ twice-shut d = false≢true (sym (unfair .of-twice) ∙ is-fair twice retiming (
 abbrev pub DemandOne : Step → Type 0
 DemandOne step = (l : Link) (c : Counts) (e : Event) → Numbered (l .clock) (l .taken) c e (step l c e .answer .no)
 
-tick : Event
-tick = record { start = micros 0; end = micros 0; kind = Tick; side = Nobody; value = 0 }
-
 under : {A : Type 0} → (4_000_000_000 < 0) ⊎ A → (A → ⊥) → ⊥
 under u f = ⊎-elim (λ h. omega arith) f u
 
@@ -158,7 +152,7 @@ unfolding zeroCounts
 no-count-above u = under u (λ v. under v (λ w. under w (λ x. under x (λ y. under y (λ z. under z (λ h. omega arith))))))
 
 pub refusing-shut : DemandOne refusing → ⊥
-unfolding freshLink zeroCounts refusedBy tick isOther isByte
+unfolding freshLink zeroCounts refusedBy isOther isByte
 refusing-shut d =
     let n = d freshLink zeroCounts tick in
     false≢true (ap (λ (k : ℕ). eqb k 0) (n .taken .1 (
@@ -168,7 +162,22 @@ refusing-shut d =
       (λ u. ⊎-elim (λ k. omega arith) no-count-above u),
     )))
 
--- ---- DEMAND 2 SHUTS OUT a builder with one constant frame: it can't read back as two different bytes
+-- ---- DEMAND 2 SHUTS OUT a link that reports each byte as outside: it never says that it is connected
+abbrev pub DemandTwo : Step → Type 0
+DemandTwo step = (es : Log) (e : Event) → Says connectedReport (reportsTo step es e) ↔ ((numberAfter (takenOf es) e ≡ taken) × Connects (takenOf es) e)
+
+no-three : (b : Bool) (l : Link) (c : Counts) (e : Event) → eqb (numberOf l c e) taken ≡ b → isAmong connectedReport (listed (outside l c e .answer .reports)) ≡ false
+unfolding isAmong listed appended stepOf answerOf refusedBy
+no-three true l c e q = rw q (by-test (λ (rs : Reports). isAmong connectedReport (listed rs) ≡ false) (isByte (e .kind)) (λ t. refl) (λ t. refl))
+no-three false l c e q = rw q
+
+pub outside-shut : DemandTwo outside → ⊥
+unfolding takenOf numberAfter clockOf countOf refusal isUnknown isTooLate isOutOfOrder isOther isByte isNobody
+outside-shut d =
+    let h = after outside fastEvents in
+    false≢true (sym (no-three (eqb (numberOf (h .link) (h .counts) fastLast) taken) (h .link) (h .counts) fastLast refl) ∙ d fastEvents fastLast .1 (fast-number, fast-connects))
+
+-- ---- AND a builder with one constant frame: it can't read back as two different bytes
 pub constant-shut : (frame : List ℕ) → ((byte : ℕ) → ReadsBack 0xEF 0x8F Plain 0 0 (byte ∷ []) frame) → ⊥
 constant-shut frame r =
     let n = ap (λ (l : List ℕ). eqb (getD l 0 0) 0x3F) (sym (r 0x3E .contents) ∙ r 0x3F .contents) in
