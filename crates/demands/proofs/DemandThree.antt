@@ -10,11 +10,13 @@ use lib.ListN.{length, take-append-drop}
 use Rattle.events.specs.declared.Event.{Event}
 use Rattle.reports.specs.Reporting.{listed}
 use Rattle.reports.specs.declared.Report.{Report}
+use Rattle.reports.specs.declared.Counts.{Counts}
 use Rattle.link.specs.Stepping.{takenBy}
 use Rattle.link.specs.declared.Link.{Link}
 use Rattle.link.specs.declared.Answer.{Answer}
 use Rattle.link.proofs.Three.{handledTells, three-enough}
-use Rattle.listing.specs.Listing.{heldOf}
+use Rattle.text.specs.Text.{headText, endText}
+use Rattle.listing.specs.Listing.{heldOf, listingOf}
 use Rattle.demands.specs.Logs.{Log, heardIn}
 use Rattle.demands.specs.Histories.{ourStep, after, answerTo, reportsOf}
 use Rattle.demands.specs.Accounts.{allNamed, lastOf, countsOf, Accounted}
@@ -24,6 +26,7 @@ use Rattle.demands.proofs.Kept.{kept-of}
 use Rattle.demands.proofs.Basics.{basics, numbers-by-history, answer-taken, calm}
 use Rattle.demands.proofs.Places.{step-placed}
 use Rattle.demands.proofs.Naming.{tiled-turns, tiled-names}
+use Rattle.demands.proofs.Shown.{historyOf, saidFor, listing-history}
 
 -- ---- what is named, and then what is held, is what was heard
 all-heard : (heard : List ℕ) (xs : List Report) (l : Link) → Tiled 0 xs (l .named) → l .named ≤ l .heard → l .heard ≡ length heard
@@ -76,3 +79,13 @@ pub none-lost : (es : Log) (e : Event) → answerTo ourStep es e .no ≡ 0
 unfolding takenBy
 none-lost es e q =
     ap (λ (a : Answer). listed (a .reports)) (answer-taken es e (sym (numbers-by-history es e) ∙ q)) ∙ three-enough (after ourStep es .link) e
+
+-- UP TO THE TEXT, for every input, whatever bytes it is of: its listing is the header, what is written for the events of its lines, in order, and an end
+-- line that shows the seven counts worked out from the history of these events, and how many bytes are held behind it.
+pub listing-shows : (input : List ℕ)
+    → let es = historyOf input in
+    listingOf input ≡ headText ++ (saidFor ourStep es ++ endText (countsOf (heardIn es) (reportsOf ourStep es)) (heldOf (after ourStep es .link)))
+listing-shows input =
+    let es = historyOf input in
+    listing-history input
+    ∙ ap (λ (c : Counts). headText ++ (saidFor ourStep es ++ endText c (heldOf (after ourStep es .link)))) (demand-three es .counts)
