@@ -8,7 +8,6 @@ use mathlib.Core.Path.{_≡_, _∙_, refl, sym, ap}
 use native.Mathlib.Omega.{arith}
 use lib.Dec.{eqb}
 use borrow.Author.Tests.{eqb-true, eq-eqb}
-use Rattle.base.specs.Choice.{if_then_else_}
 use Rattle.base.specs.Reports.{noReason, connectedReport, dropped, restarted}
 use Rattle.base.proofs.Tests.{by-test}
 use Rattle.units.specs.Units.{gapOf}

@@ -4,11 +4,10 @@
 use Prim.Native.Nat.{ℕ, _+_, _≤_}
 use mathlib.Core.Bool.{Bool, true, false, false≢true}
 use mathlib.Core.Logic.{_↔_, _⊎_, inl, inr}
-use mathlib.Core.Path.{_≡_, _∙_, refl, sym, ap, ap₂}
+use mathlib.Core.Path.{_≡_, _∙_, refl, sym, ap}
 use native.Mathlib.Omega.{arith}
 use lib.Dec.{eqb}
 use borrow.Author.Tests.{eqb-true, eqb-false, eq-eqb}
-use Rattle.base.specs.Choice.{if_then_else_}
 use Rattle.base.specs.Numbers.{taken}
 use Rattle.base.specs.Reports.{connectedReport}
 use Rattle.units.specs.declared.Micros.{Micros}
@@ -17,14 +16,14 @@ use Rattle.events.specs.declared.Kind.{Kind}
 use Rattle.events.specs.declared.Kind.the-variants.{Address, WakeUp, Byte, Tick, Drop, Other}
 use Rattle.events.specs.declared.Event.{Event}
 use Rattle.reports.specs.Reporting.{listed}
-use Rattle.link.specs.Handling.{freshLink, handled, linkAfter}
+use Rattle.link.specs.Handling.{handled, linkAfter}
 use Rattle.link.specs.Stepping.{refusedBy, takenBy}
 use Rattle.link.specs.declared.Link.{Link}
 use Rattle.link.specs.declared.Answer.{Answer}
 use Rattle.demands.specs.Logs.{Log, none, _▷_, markOf, numberAfter, takenOf}
-use Rattle.demands.specs.Histories.{ourStep, after, answerTo, reportsTo, isAmong, Says}
+use Rattle.demands.specs.Histories.{ourStep, after, reportsTo, isAmong, Says}
 use Rattle.demands.specs.Starts.{SlowStart, FastStart}
-use Rattle.demands.specs.Connecting.{Since, Connects}
+use Rattle.demands.specs.Connecting.{Connects}
 use Rattle.demands.proofs.Numbering.{log-numbered}
 use Rattle.demands.proofs.Kept.{timely}
 use Rattle.demands.proofs.Basics.{basics, answer-taken, answer-refused}
@@ -147,7 +146,8 @@ completes-connects es e q =
     )
 
 -- ---- the reports of an event that is taken, and of one that is refused
-pub reports-taken : (es : Log) (e : Event) → numberAfter (takenOf es) e ≡ taken → reportsTo ourStep es e ≡ listed (handled (after ourStep es .link) e .reports)
+pub reports-taken : (es : Log) (e : Event) → numberAfter (takenOf es) e ≡ taken
+    → reportsTo ourStep es e ≡ listed (handled (after ourStep es .link) e .reports)
 unfolding takenBy
 reports-taken es e q = ap (λ (a : Answer). listed (a .reports)) (answer-taken es e q)
 

@@ -1,7 +1,7 @@
 -- The fast start: a byte completes a run from a wake-up exactly if the wake-up and its bytes are a good fast start with the run's key bytes.
 -- Assumes nothing.
 use Prim.Native.Nat.{ℕ, _+_, _-_, _%_, _≤_}
-use mathlib.Core.Bool.{Bool, true, false, not, _&&_, _||_, false≢true}
+use mathlib.Core.Bool.{Bool, true, false, not, _||_, false≢true}
 use mathlib.Core.Logic.{_⊎_, inl, inr}
 use mathlib.Core.Path.{_≡_, _∙_, refl, sym, ap, ap₂, subst}
 use native.Mathlib.Omega.{arith}
@@ -21,9 +21,10 @@ use Rattle.starts.specs.declared.Stage.{Stage}
 use Rattle.starts.specs.declared.Stage.the-variants.{AskFormat, AskTarget, AskSource, AskService, AskSum}
 use Rattle.starts.specs.declared.Stage.the-variants.{Format, Target, Source, LongTarget, LongSource, Length, Service, KeyOne, KeyTwo, Sum}
 use Rattle.starts.specs.declared.Start.{Start}
-use Rattle.moves.specs.Moves.{isIdle, isGoodLow}
+use Rattle.moves.specs.Moves.{isGoodLow}
 use Rattle.demands.specs.Logs.{Log, none, _▷_}
-use Rattle.demands.specs.Starts.{Low, TesterNext, UnitNext, Opens, Replies, Request, request, Header, plain, plain-long, addressed, addressed-long, FastStart, fast}
+use Rattle.demands.specs.Starts.{Low, TesterNext, UnitNext, Opens, Replies, Request, request}
+use Rattle.demands.specs.Starts.{Header, plain, plain-long, addressed, addressed-long, FastStart, fast}
 use Rattle.demands.proofs.Running.{firstBy, fallBy, startOn, lastEnd, Starts, Runs, Done}
 use Rattle.demands.proofs.Judging.{Fits, Comes, comes, right-of, On, on-more, on-next, on-last, done-good}
 use Rattle.demands.proofs.Slowly.{idle-of, of-idle}
@@ -130,7 +131,8 @@ first : (m : Micros) (w : Event) → w .kind ≡ WakeUp → Starts WakeUp m w �
 unfolding fastStart
 first m w k s = q0 k (low-of w (s .1))
 
-one-more : (w : Event) (bs : Log) (s : Start) (b : Event) → SoFar w bs s → Fits s (fallBy WakeUp (w .start)) (lastEnd w bs) b → isLast (s .stage) ≡ false
+one-more : (w : Event) (bs : Log) (s : Start) (b : Event) → SoFar w bs s → Fits s (fallBy WakeUp (w .start)) (lastEnd w bs) b
+    → isLast (s .stage) ≡ false
     → SoFar w (bs ▷ b) (onward s (b .value))
 unfolding dueAt fits originOf roleAt isOpening nextStage onward sumAfter isPairOne isPairTwo isRequestEnd isLast isEnding byteSum
 one-more w bs s b (q0 k l) g z =

@@ -1,9 +1,9 @@
 -- How a byte of an initialization is judged: it is right exactly if it is from the side that is due, starts in the window that is due, and its value
 -- fits. Said once for all stages of both initializations, with what follows for whole runs.
 -- Assumes nothing.
-use Prim.Native.Nat.{ℕ, _+_, _-_, _≤_}
+use Prim.Native.Nat.{_-_, _≤_}
 use mathlib.Core.Bool.{Bool, true, false, not, false≢true}
-use mathlib.Core.Path.{_≡_, _∙_, refl, sym, ap, ap₂, subst}
+use mathlib.Core.Path.{_≡_, _∙_, refl, sym, ap, subst}
 use native.Mathlib.Omega.{arith}
 use borrow.Author.Tests.{ltb-false, le-ltb}
 use Rattle.base.specs.Choice.{if_then_else_}
@@ -16,13 +16,12 @@ use Rattle.events.specs.declared.Side.{Side}
 use Rattle.events.specs.declared.Side.the-variants.{Tester, Unit, Nobody}
 use Rattle.events.specs.declared.Event.{Event}
 use Rattle.starts.specs.Starts.{dueAt, roleAt, isOpening, originOf, fits, isFrom, isEarly, judged, isOver, isLast, onward}
-use Rattle.starts.specs.declared.Stage.{Stage}
 use Rattle.starts.specs.declared.Start.{Start}
 use Rattle.phases.specs.Phases.{starting}
 use Rattle.moves.specs.Moves.{sinceOrigin}
 use Rattle.demands.specs.Logs.{Log, none, _▷_}
 use Rattle.demands.specs.Starts.{Window}
-use Rattle.demands.proofs.Running.{firstBy, fallBy, startOn, lastEnd, Starts, Hears, Last, Runs, Done}
+use Rattle.demands.proofs.Running.{firstBy, fallBy, startOn, lastEnd, Starts, Hears, isLastOn, Runs, Done}
 
 -- ---- the tests, one by one
 judged-by : (a b c : Bool) → (if not a then wrongSide else if b then tooEarly else if c then noReason else misfit) ≡ noReason
@@ -96,7 +95,7 @@ module _ (a : Event) (bs : Log) (b : Event) where
   unfolding starting sinceOrigin
   hears-of f = record { later = f .later; window = f .window; right = f .right }
 
-  pub last-of : Last a bs ≡ isLast (startOn a bs .stage)
+  pub last-of : isLastOn a bs ≡ isLast (startOn a bs .stage)
   unfolding starting
   last-of = refl
 
@@ -109,7 +108,7 @@ module _ (m : Micros) (a : Event) (bs : Log) (s : Start) (b : Event) (o : On m a
   hears-on : Hears a bs b
   hears-on = hears-of a bs b (subst (λ (x : Start). Fits x (fallBy (a .kind) (a .start)) (lastEnd a bs) b) (sym (o .at)) f)
 
-  last-on : Last a bs ≡ isLast (s .stage)
+  last-on : isLastOn a bs ≡ isLast (s .stage)
   last-on = last-of a bs b ∙ ap (λ (x : Start). isLast (x .stage)) (o .at)
 
   -- one byte more, and the last
@@ -138,9 +137,11 @@ module _ (m : Micros) (a : Event) (bs : Log) (s : Start) (b : Event) (mark : Mic
 -- what holds at the start and is kept by each byte that is right holds of every run; and what the last byte makes of it is so of each complete one
 module _ (kind : Kind) (SoFar : Event → Log → Start → Type 0) (Good : Event → Log → Start → Event → Type 0)
     (first : (m : Micros) (a : Event) → a .kind ≡ kind → Starts kind m a → SoFar a none (firstBy kind (a .value)))
-    (one-more : (a : Event) (bs : Log) (s : Start) (b : Event) → SoFar a bs s → Fits s (fallBy kind (a .start)) (lastEnd a bs) b → isLast (s .stage) ≡ false
+    (one-more : (a : Event) (bs : Log) (s : Start) (b : Event) → SoFar a bs s → Fits s (fallBy kind (a .start)) (lastEnd a bs) b
+    → isLast (s .stage) ≡ false
     → SoFar a (bs ▷ b) (onward s (b .value)))
-    (finish : (a : Event) (bs : Log) (s : Start) (b : Event) → SoFar a bs s → Fits s (fallBy kind (a .start)) (lastEnd a bs) b → isLast (s .stage) ≡ true
+    (finish : (a : Event) (bs : Log) (s : Start) (b : Event) → SoFar a bs s → Fits s (fallBy kind (a .start)) (lastEnd a bs) b
+    → isLast (s .stage) ≡ true
     → Good a bs s b) where
   fits-by : (a : Event) (bs : Log) (b : Event) → a .kind ≡ kind → Hears a bs b → Fits (startOn a bs) (fallBy kind (a .start)) (lastEnd a bs) b
   fits-by a bs b k h = subst (λ (x : Kind). Fits (startOn a bs) (fallBy x (a .start)) (lastEnd a bs) b) k (fits-of a bs b h)

@@ -1,15 +1,14 @@
 -- What the event that completes an initialization is answered with: one report, 3, which names the initialization's bytes, and a link that is connected
 -- by its key bytes, with the windows that KB1 names, and awaits nothing.
 -- Assumes nothing.
-use Prim.Native.Nat.{ℕ, _+_, _-_, _≤_, _<_}
+use Prim.Native.Nat.{ℕ, _+_, _-_, _<_}
 use mathlib.Core.Bool.{Bool, true, false}
-use mathlib.Core.List.{List, [], _∷_, _++_}
+use mathlib.Core.List.{[], _∷_}
 use mathlib.Core.Path.{_≡_, _∙_, refl, sym, ap, ap₂, subst}
 use native.Mathlib.Omega.{arith}
 use lib.Dec.{eqb}
 use lib.ListN.{length, length-append}
 use borrow.Author.Tests.{eqb-true, eqb-false}
-use Rattle.base.specs.Choice.{if_then_else_}
 use Rattle.base.specs.Numbers.{taken}
 use Rattle.base.specs.Reports.{connectedReport, noReason, restarted}
 use Rattle.base.specs.Sums.{countSum}
@@ -29,7 +28,7 @@ use Rattle.phases.specs.declared.Phase.{Phase}
 use Rattle.reports.specs.Reporting.{namesBytes, reportOf, appended, listed, told}
 use Rattle.reports.specs.declared.Report.{Report}
 use Rattle.reports.specs.declared.Run.{Run}
-use Rattle.link.specs.Handling.{freshLink, passed, shut, hearing, begun, handled, linkAfter}
+use Rattle.link.specs.Handling.{passed, hearing, begun, handled, linkAfter}
 use Rattle.link.specs.Stepping.{takenBy}
 use Rattle.link.specs.declared.Link.{Link}
 use Rattle.link.specs.declared.Answer.{Answer}
@@ -41,8 +40,9 @@ use Rattle.demands.proofs.Tiling.{passed-heard, shut-heard, passed-flow
 use Rattle.demands.proofs.Kept.{timely, kept-of}
 use Rattle.demands.proofs.Basics.{basics, answer-taken}
 use Rattle.demands.proofs.Phases.{Open}
-use Rattle.demands.proofs.Completing.{Completes, connecting, completes-run}
-use Rattle.demands.proofs.Running.{startOn, phaseOn, lastEnd, Starts, Runs, Behind, Inv, open-early, back-start, back-open, back-tick, back-byte, completes-of}
+use Rattle.demands.proofs.Completing.{connecting, completes-run}
+use Rattle.demands.proofs.Running.{startOn, phaseOn, lastEnd, Starts, Runs, Behind, Inv, open-early, back-start, back-open, back-tick}
+use Rattle.demands.proofs.Running.{back-byte, no-since, completes-of}
 use Rattle.demands.proofs.Exactly.{runs-starts, done-of, ended-by, behind, link-taken, link-refused, log-taken, log-refused, inv-of}
 
 pub record Connected (log : Log) (e : Event) (c : Connects log e) (a : Answer) : Type 0 where
@@ -75,7 +75,8 @@ module _ (l : Link) (log : Log) (e : Event) (t : Behind l log e) (inv : Inv l lo
       ∙ shut-none r restarted (passed-flows (begun l e) (l .mark) (e .start) holds .holds)
       ∙ shut-heard r restarted ∙ passed-heard (begun l e) (l .mark) (e .start) ∙ heard
 
-told-by : (l : Link) (log : Log) (e : Event) → Behind l log e → Inv l log → l .heard ≡ length (heardOf log) → Holds (l .phase .state) (l .named) (l .heard)
+told-by : (l : Link) (log : Log) (e : Event) → Behind l log e → Inv l log → l .heard ≡ length (heardOf log)
+    → Holds (l .phase .state) (l .named) (l .heard)
     → Told l log → (a : Event) (before bs : Log) → Since a before (log ▷ e) bs → Runs (markOf before) a bs
     → Open (phaseOn a bs) (lastEnd a bs) (e .end) → handled l e .named ≡ length (heardOf before)
 unfolding begun
@@ -94,9 +95,6 @@ told-on : (l : Link) (log : Log) (e : Event) → Behind l log e → Inv l log �
     → Holds (l .phase .state) (l .named) (l .heard) → Told l log → Told (linkAfter l e (handled l e)) (log ▷ e)
 unfolding linkAfter
 told-on l log e t inv h g n = told-by l log e t inv h g n
-
-no-since : (a : Event) (before bs : Log) → Since a before none bs → ⊥
-no-since a before bs s = elim s [ ]
 
 told-next : (b : Bool) (es : Log) (e : Event) → eqb (numberAfter (takenOf es) e) taken ≡ b → Told (after ourStep es .link) (takenOf es)
     → Told (after ourStep (es ▷ e) .link) (takenOf (es ▷ e))

@@ -7,15 +7,13 @@ use mathlib.Core.Path.{_≡_, _∙_, refl, sym, ap}
 use lib.Dec.{eqb}
 use native.Mathlib.Omega.{arith}
 use borrow.Author.Tests.{eqb-true, not-false}
-use Rattle.base.specs.Choice.{if_then_else_}
 use Rattle.base.specs.Reports.{noReason, connectedReport, failedReport}
-use Rattle.base.proofs.Tests.{and-split, by-test}
+use Rattle.base.proofs.Tests.{by-test}
 use Rattle.units.specs.Units.{micros, gapOf}
 use Rattle.units.specs.declared.Micros.{Micros}
 use Rattle.timing.specs.Timing.{isPassed}
 use Rattle.events.specs.Events.{isTester}
 use Rattle.events.specs.declared.Side.{Side}
-use Rattle.events.specs.declared.Event.{Event}
 use Rattle.starts.specs.Starts.{judged, isOver, isLast, onward, slowStart, fastStart}
 use Rattle.starts.specs.declared.Start.{Start}
 use Rattle.talk.specs.Talk.{isFirst, laterReason, isSum, isStopped}
@@ -27,7 +25,7 @@ use Rattle.phases.specs.declared.Phase.{Phase}
 use Rattle.moves.specs.Moves.{still, makes, isSilent, afterSilence, afterP2, afterP3, sinceOrigin, afterWindow, closing, leaving}
 use Rattle.moves.specs.Moves.{isIdle, startingSlow, isGoodLow, startingFast, startByte, reasonAtFirst, firstByte, laterByte, byteIn, afterByte, afterStop}
 use Rattle.moves.specs.declared.Move.{Move}
-use Rattle.reports.specs.Reporting.{told, moved, withPhase}
+use Rattle.reports.specs.Reporting.{moved}
 use Rattle.reports.specs.declared.Run.{Run}
 use Rattle.link.specs.Handling.{passed, shut}
 use Rattle.link.specs.Quick.{calmIn, isCalm}
@@ -118,11 +116,11 @@ pub left-alone : (r : Run) (m : Move) → (In (m .phase) → m .phase ≡ r .pha
 left-alone r m h i = moved-phase r m ∙ h (carried _ _ (moved-phase r m) i)
 
 -- what time leaves in an initialization was in it before, in the same, and its window is open
-pub record Kept (r : Run) (mark start : Micros) : Type 0 where
+pub record Stays (r : Run) (mark start : Micros) : Type 0 where
   pub was : In (r .phase)
   pub window : Open (r .phase) mark start
 
-pub passed-in : (r : Run) (mark start : Micros) → In (passed r mark start .phase) → Kept r mark start
+pub passed-in : (r : Run) (mark start : Micros) → In (passed r mark start .phase) → Stays r mark start
 unfolding passed
 passed-in r mark start i4 =
     let gap = gapOf mark start in
@@ -249,7 +247,8 @@ later-out p side v =
     by-test (λ (m : Move). In (m .phase) → ⊥) (not (eqb (laterReason (p .message) side v) noReason)) (λ _. damaged-out p _)
     (λ _. by-test (λ (m : Move). In (m .phase) → ⊥) (isSum (p .message .part)) (λ _. framed-out p) (λ _. holding-out p _))
 
-byte-by : (st : State) (p : Phase) (side : Side) (v : ℕ) (mark start : Micros) → p .state ≡ st → In (byteIn st p side v mark start .phase) → isStarting st ≡ true
+byte-by : (st : State) (p : Phase) (side : Side) (v : ℕ) (mark start : Micros) → p .state ≡ st → In (byteIn st p side v mark start .phase)
+    → isStarting st ≡ true
 unfolding isStarting
 byte-by Down p side v mark start e i = absurd (down-out i)
 byte-by Starting p side v mark start e i = refl

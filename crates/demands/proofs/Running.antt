@@ -6,9 +6,8 @@ use mathlib.Core.Bool.{Bool, true, false, false≢true}
 use mathlib.Core.Path.{_≡_, _∙_, refl, sym, ap, ap₂, subst}
 use native.Mathlib.Omega.{arith}
 use borrow.Author.Tests.{ltb-false, le-ltb}
-use Rattle.base.specs.Choice.{if_then_else_}
 use Rattle.base.specs.Reports.{noReason, dropped, restarted}
-use Rattle.units.specs.Units.{micros, gapOf}
+use Rattle.units.specs.Units.{micros}
 use Rattle.units.specs.declared.Micros.{Micros}
 use Rattle.events.specs.Events.{marks}
 use Rattle.events.specs.declared.Kind.{Kind}
@@ -75,16 +74,16 @@ pub record Hears (a : Event) (bs : Log) (b : Event) : Type 0 where
   pub window : Open (phaseOn a bs) (lastEnd a bs) (b .start)
   pub right : judged (phaseOn a bs .start) (b .side) (b .value) (sinceOrigin (phaseOn a bs) (lastEnd a bs) (b .start)) ≡ noReason
 
-abbrev pub Last : Event → Log → Bool
-Last a bs = isLast (phaseOn a bs .start .stage)
+abbrev pub isLastOn : Event → Log → Bool
+isLastOn a bs = isLast (phaseOn a bs .start .stage)
 
 abbrev pub Runs : Micros → Event → Log → Type 0
 Runs m a none = Starts (a .kind) m a
-Runs m a (bs ▷ b) = Runs m a bs × Hears a bs b × (Last a bs ≡ false)
+Runs m a (bs ▷ b) = Runs m a bs × Hears a bs b × (isLastOn a bs ≡ false)
 
 -- and one that completes it
 abbrev pub Done : Micros → Event → Log → Event → Type 0
-Done m a bs b = Runs m a bs × Hears a bs b × (Last a bs ≡ true)
+Done m a bs b = Runs m a bs × Hears a bs b × (isLastOn a bs ≡ true)
 
 starts-mark : (k : Kind) (m : Micros) (a : Event) → Starts k m a → marks k ≡ true
 unfolding marks
@@ -128,7 +127,7 @@ module _ (p : Phase) (mark : Micros) (a : Event) (bs : Log) (b : Event) (at : p 
       ≡ judged (phaseOn a bs .start) (b .side) (b .value) (sinceOrigin (phaseOn a bs) (lastEnd a bs) (b .start))
   judged-same = ap₂ (λ (x : Phase) (y : Micros). judged (x .start) (b .side) (b .value) (sinceOrigin x y (b .start))) at end
 
-  pub last-same : isLast (p .start .stage) ≡ Last a bs
+  pub last-same : isLast (p .start .stage) ≡ isLastOn a bs
   last-same = ap (λ (x : Phase). isLast (x .start .stage)) at
 
   -- one byte more
@@ -198,7 +197,8 @@ heard-in r e mark i =
     let r1 = moved (hearing r) m1 in
     left-alone r1 (afterStop (r1 .phase)) (stop-in (r1 .phase)) i ∙ moved-phase (hearing r) m1
 
-pub heard-goes : (r : Run) (e : Event) (mark fall : Micros) (s : Start) → afterByte (r .phase) (e .side) (e .value) mark (e .start) ≡ still (starting fall s)
+pub heard-goes : (r : Run) (e : Event) (mark fall : Micros) (s : Start)
+    → afterByte (r .phase) (e .side) (e .value) mark (e .start) ≡ still (starting fall s)
     → byteHeard r e mark ≡ withPhase (hearing r) (starting fall s)
 unfolding byteHeard moved afterStop starting isQuiet
 heard-goes r e mark fall s h = rw h refl
@@ -219,7 +219,8 @@ module _ (l : Link) (log : Log) (e : Event) (t : Behind l log e) (inv : Inv l lo
   on-mark g = t .mark ∙ since-mark (runs-mark (markOf (g .before)) (g .start) (g .bytes) (g .runs)) (g .since)
 
   -- ---- forth
-  forth-start : handled l e ≡ moved (shut r restarted) (startMove (e .kind) e (l .mark)) → In (handled l e .phase) → Going (handled l e .phase) (log ▷ e)
+  forth-start : handled l e ≡ moved (shut r restarted) (startMove (e .kind) e (l .mark)) → In (handled l e .phase)
+      → Going (handled l e .phase) (log ▷ e)
   forth-start h i =
       let q = ap (λ (x : Run). x .phase) h ∙ moved-phase (shut r restarted) (startMove (e .kind) e (l .mark)) in
       let s = move-in (e .kind) e (l .mark) (carried _ _ q i) in
@@ -316,7 +317,8 @@ module _ (l : Link) (log : Log) (e : Event) (t : Behind l log e) (inv : Inv l lo
     pub was : In (l .phase)
     pub window : Open (l .phase) (l .mark) (e .start)
 
-  pub back-open : (a : Event) (before bs : Log) → Since a before log bs → Runs (markOf before) a bs → Open (phaseOn a bs) (lastEnd a bs) (e .start) → At a bs
+  pub back-open : (a : Event) (before bs : Log) → Since a before log bs → Runs (markOf before) a bs
+      → Open (phaseOn a bs) (lastEnd a bs) (e .start) → At a bs
   back-open a before bs s u o =
       let p = inv .back a before bs s u (open-early (phaseOn a bs) (lastEnd a bs) (l .clock) (e .start) (t .later) o) in
       let m = t .mark ∙ since-mark (runs-mark (markOf before) a bs u) s in
@@ -332,7 +334,7 @@ module _ (l : Link) (log : Log) (e : Event) (t : Behind l log e) (inv : Inv l lo
   back-tick w k = handled-is _ (acted-tick r e (l .mark) k) ∙ passed-same (w .was) (w .window)
 
   -- a byte that is right and not the last
-  pub back-byte : (a : Event) (bs : Log) → At a bs → e .kind ≡ Byte → Hears a bs e → Last a bs ≡ false
+  pub back-byte : (a : Event) (bs : Log) → At a bs → e .kind ≡ Byte → Hears a bs e → isLastOn a bs ≡ false
       → handled l e ≡ withPhase (hearing (begun l e)) (phaseOn a (bs ▷ e))
   unfolding begun
   back-byte a bs w k h z =
@@ -361,7 +363,7 @@ pub inv-on : (l : Link) (log : Log) (e : Event) → Behind l log e → Inv l log
 unfolding linkAfter
 inv-on l log e t inv = record { forth = forth-by l log e t inv (e .kind) refl; back = back-by l log e t inv }
 
-no-since : (a : Event) (before bs : Log) → Since a before none bs → ⊥
+pub no-since : (a : Event) (before bs : Log) → Since a before none bs → ⊥
 no-since a before bs s = elim s [ ]
 
 pub inv-fresh : Inv freshLink none

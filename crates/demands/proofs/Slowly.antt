@@ -1,7 +1,7 @@
 -- The slow start: a byte completes a run from an address exactly if the address and its bytes are a good slow start with the run's key bytes.
 -- Assumes nothing.
 use Prim.Native.Nat.{ℕ, _+_, _-_, _≤_}
-use mathlib.Core.Bool.{Bool, true, false, not, false≢true}
+use mathlib.Core.Bool.{true, false, not, false≢true}
 use mathlib.Core.Path.{_≡_, _∙_, refl, sym, ap, ap₂, subst}
 use native.Mathlib.Omega.{arith}
 use lib.Dec.{ltb}
@@ -18,7 +18,7 @@ use Rattle.starts.specs.declared.Stage.the-variants.{Sync as AtSync, FirstKey a
 use Rattle.starts.specs.declared.Start.{Start}
 use Rattle.moves.specs.Moves.{isIdle}
 use Rattle.demands.specs.Logs.{Log, none, _▷_}
-use Rattle.demands.specs.Starts.{Sync, KeyOne, KeyTwo, KeyBack, AddressBack, SlowStart, slow}
+use Rattle.demands.specs.Starts.{Sync, KeyOne, KeyTwo, KeyBack, SlowStart, slow}
 use Rattle.demands.proofs.Running.{firstBy, fallBy, startOn, lastEnd, Starts, Runs, Done}
 use Rattle.demands.proofs.Judging.{Fits, Comes, comes, On, on-next, on-last, done-good}
 
@@ -49,7 +49,8 @@ first : (m : Micros) (a : Event) → a .kind ≡ Address → Starts Address m a 
 unfolding slowStart
 first m a k s = s0
 
-one-more : (a : Event) (bs : Log) (s : Start) (b : Event) → SoFar a bs s → Fits s (fallBy Address (a .start)) (lastEnd a bs) b → isLast (s .stage) ≡ false
+one-more : (a : Event) (bs : Log) (s : Start) (b : Event) → SoFar a bs s → Fits s (fallBy Address (a .start)) (lastEnd a bs) b
+    → isLast (s .stage) ≡ false
     → SoFar a (bs ▷ b) (onward s (b .value))
 unfolding dueAt fits complement originOf roleAt isOpening nextStage onward sumAfter isPairOne isPairTwo isRequestEnd isLast isEnding
 one-more a bs s b s0 f z = let c = comes s _ (a .end) b f (f .later) in s1 (c .side, c .window, eqb-true (b .value) 0x55 (c .value))
