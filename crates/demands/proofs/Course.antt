@@ -1,19 +1,18 @@
 -- An event in a session, as the step answers it: what it leaves of the session, and what its reports are (`event-ends`). So the link of a session is as
 -- the session says (`session-at`).
 -- Assumes nothing.
-use Prim.Native.Nat.{ℕ, zero, suc, _≤_, _<_}
+use Prim.Native.Nat.{ℕ, _+_, _≤_}
 use mathlib.Core.Bool.{Bool, true, false, false≢true}
-use mathlib.Core.List.{List, [], _∷_, _++_, append-nil}
+use mathlib.Core.List.{List, [], _++_}
 use mathlib.Core.Path.{_≡_, refl, sym, ap, _∙_, subst, subst₃}
 use native.Mathlib.Omega.{arith}
-use borrow.Author.Tests.{eq-eqb, eqb-true, eqb-false}
+use borrow.Author.Tests.{eqb-true, eqb-false}
 use lib.Dec.{eqb}
-use lib.ListN.{length, getD}
-use Rattle.base.specs.Choice.{if_then_else_}
+use lib.ListN.{length}
 use Rattle.base.specs.Numbers.{taken}
 use Rattle.base.specs.Reports.{downReport}
-use Rattle.base.proofs.Tests.{by-test}
-use Rattle.units.specs.Units.{micros}
+use Rattle.units.specs.Units.{micros, gapOf}
+use Rattle.units.specs.declared.Micros.{Micros}
 use Rattle.events.specs.Events.{isByte}
 use Rattle.events.specs.declared.Kind.{Kind}
 use Rattle.events.specs.declared.Kind.the-variants.{Address, WakeUp, Byte, Tick, Drop, Other}
@@ -21,6 +20,7 @@ use Rattle.events.specs.declared.Event.{Event}
 use Rattle.phases.specs.Phases.{isStarting, isQuiet, isOpen, isConnected}
 use Rattle.talk.specs.declared.Request.{Request}
 use Rattle.phases.specs.declared.Phase.{Phase}
+use Rattle.moves.specs.Moves.{isSilent}
 use Rattle.reports.specs.Reporting.{noReports, listed}
 use Rattle.reports.specs.declared.Report.{Report}
 use Rattle.reports.specs.declared.Run.{Run}
@@ -29,7 +29,7 @@ use Rattle.link.specs.Stepping.{refusedBy, takenBy}
 use Rattle.link.specs.declared.Link.{Link}
 use Rattle.link.specs.declared.Answer.{Answer}
 use Rattle.link.proofs.Three.{passedTells, actedTells, handledTells, three-enough}
-use Rattle.demands.specs.Logs.{Log, none, _▷_, heardOf, heardIn, numberAfter, takenOf, InBytes}
+use Rattle.demands.specs.Logs.{Log, _▷_, heardIn, numberAfter, takenOf, InBytes}
 use Rattle.demands.specs.Histories.{ourStep, after, answerTo, reportsTo, Says, isAmong, Among}
 use Rattle.demands.specs.Connecting.{Connects}
 use Rattle.demands.specs.Sessions.{pendingIn, windowsIn, Talk, opening, talkAfter, Session, opens, lasts}
@@ -37,47 +37,19 @@ use Rattle.demands.proofs.Basics.{basics, answer-taken, answer-refused,
 use Rattle.demands.proofs.Names.{connects-names}
 use Rattle.demands.proofs.Messages.{Kept, kept-none}
 use Rattle.demands.proofs.Saying.{Each, each-none, among-right}
-use Rattle.demands.proofs.Going.{At, at-more, Told, talked, Passes, passed-step}
+use Rattle.demands.specs.Messages.{InTime, refused, waits}
+use Rattle.demands.proofs.Listening.{heard-bytes, byte-more, other-more, refused-more}
+use Rattle.demands.proofs.Recent.{passed-recent, not-silent}
+use Rattle.demands.proofs.Turns.{not-other}
+use Rattle.demands.proofs.Going.{At, SpeaksOn, at-more, Told, talked, Passes, passed-step}
 use Rattle.demands.proofs.Ending.{Ends, still-up, over, behind, tick-ends, drop-ends, slow-ends, fast-ends}
 use Rattle.demands.proofs.Hearing.{byte-ends, byte-outside}
 
--- ---- bytes heard
-abbrev Bytes : List ℕ → Type 0
-Bytes l = (i : ℕ) → getD l i 0 < 256
-
-bytes-both : (l k : List ℕ) → Bytes l → Bytes k → Bytes (l ++ k)
-bytes-both [] k f g i = g i
-bytes-both (x ∷ l) k f g zero = f 0
-bytes-both (x ∷ l) k f g (suc i) = bytes-both l k (λ j. f (suc j)) g i
-
-bytes-none : Bytes []
-bytes-none i = omega arith
-
-bytes-one : (v : ℕ) → v < 256 → Bytes (v ∷ [])
-bytes-one v h zero = h
-bytes-one v h (suc i) = omega arith
-
-heard-bytes : (es : Log) → InBytes es → Bytes (heardIn es)
-unfolding InBytes takenOf heardOf
-heard-bytes none b = bytes-none
-heard-bytes (es ▷ e) b =
-    let front = heard-bytes es (b .0) in
-    by-test (λ (log : Log). Bytes (heardOf log)) (eqb (numberAfter (takenOf es) e) taken) {x = takenOf es ▷ e} {y = takenOf es}
-    (λ _. bytes-both (heardIn es) _ front (by-test Bytes (isByte (e .kind)) {x = e .value ∷ []} {y = []} (λ _. bytes-one (e .value) (b .1)) (λ _. bytes-none)))
-    (λ _. front)
-
-taken-more : (es : Log) (e : Event) → numberAfter (takenOf es) e ≡ taken → heardIn (es ▷ e) ≡ heardIn es ++ (if isByte (e .kind) then e .value ∷ [] else [])
-unfolding takenOf heardOf
-taken-more es e n = rw (eq-eqb _ taken n)
-
-other-more : (es : Log) (e : Event) → numberAfter (takenOf es) e ≡ taken → isByte (e .kind) ≡ false → heardIn (es ▷ e) ≡ heardIn es
-other-more es e n k = taken-more es e n ∙ rw k (append-nil (heardIn es))
-
-refused-more : (es : Log) (e : Event) → eqb (numberAfter (takenOf es) e) taken ≡ false → heardIn (es ▷ e) ≡ heardIn es
-unfolding takenOf
-refused-more es e n = rw n
-
 -- ---- an event that is taken
+-- while a message is open, a tick in time goes on with it
+tick-speaks : (es : Log) (e : Event) → numberAfter (takenOf es) e ≡ taken → e .kind ≡ Tick → InTime (takenOf es) e → (t : Talk) → SpeaksOn es e t
+tick-speaks es e n k i t b bytes s = waits s n k i
+
 module _ (es : Log) (e : Event) (t : Talk) (b : InBytes (es ▷ e)) (number : numberAfter (takenOf es) e ≡ taken) where
   abbrev here : Link
   here = after ourStep es .link
@@ -85,20 +57,26 @@ module _ (es : Log) (e : Event) (t : Talk) (b : InBytes (es ▷ e)) (number : nu
   room : length (heardIn es) ≤ 4_000_000_000
   room = let x = basics es in omega (arith, x .few, x .bound)
 
+  in-time : isSilent (gapOf (here .mark) (e .start)) ≡ false → InTime (takenOf es) e
+  in-time h = subst (λ (m : Micros). e .start .0 ≤ m .0 + 20_000) (basics es .mark) (not-silent (here .mark) (e .start) h)
+
   -- it acts
-  act-ends : (k : Kind) → e .kind ≡ k → (all rs : List Report) (r : Run) → Each (λ (x : Report). Among x all) (actedTells k r e (here .mark))
-      → Passes es e all t rs r → Ends es e all t (rs ++ actedTells k r e (here .mark)) (actedBy k r e (here .mark))
-  unfolding isByte
-  act-ends Address k all rs r i p = slow-ends es e all t rs r (e .value) (here .mark) (e .start) p
-  act-ends WakeUp k all rs r i p = fast-ends es e all t rs r (here .mark) (e .start) (e .end) p
-  act-ends Byte k all rs r i p =
-      let one : heardIn (es ▷ e) ≡ heardIn es ++ (e .value ∷ []) = taken-more es e number ∙ ap (λ (x : Kind). heardIn es ++ (if isByte x then e .value ∷ [] else [])) k in
-      let byte = heard-bytes (es ▷ e) b in
+  act-ends : (k : Kind) → e .kind ≡ k → (all rs : List Report) (r : Run) → (isOpen (r .phase .state) ≡ true → InTime (takenOf es) e)
+      → Each (λ (x : Report). Among x all) (actedTells k r e (here .mark)) → Passes es e all t rs r
+      → Ends es e all t (rs ++ actedTells k r e (here .mark)) (actedBy k r e (here .mark))
+  unfolding isByte InBytes
+  act-ends Address k all rs r f i p = slow-ends es e all t rs r (e .value) (here .mark) (e .start) p
+  act-ends WakeUp k all rs r f i p = fast-ends es e all t rs r (here .mark) (e .start) (e .end) p
+  act-ends Byte k all rs r f i p =
+      let one = byte-more es e number k in
+      let front = heard-bytes es (b .0) in
+      let bytes = heard-bytes (es ▷ e) b in
       let mark = basics es .mark in
-      behind es e all t rs _ r _ p (λ u a. byte-ends es e all k number one room byte (here .mark) mark u r a i) (byte-outside es e all k number one room byte (here .mark) mark t r)
-  act-ends Tick k all rs r i p = tick-ends es e all t rs r (other-more es e number (ap isByte k)) p
-  act-ends Drop k all rs r i p = drop-ends es e all t rs r p
-  act-ends Other k all rs r i p = tick-ends es e all t rs r (other-more es e number (ap isByte k)) p
+      behind es e all t rs _ r _ p (λ u a. byte-ends es e all k number one room front bytes (here .mark) mark u r f a i)
+      (byte-outside es e all k number one room front bytes (here .mark) mark t r)
+  act-ends Tick k all rs r f i p = tick-ends es e all t rs r (other-more es e number (ap isByte k)) (λ o u. tick-speaks es e number k (f o) u) p
+  act-ends Drop k all rs r f i p = drop-ends es e all t rs r p
+  act-ends Other k all rs r f i p = absurd (not-other (takenOf es) e number k)
 
   handled-ends : At es t (here .phase) (here .named) (here .heard) → Ends es e (handledTells here e) t (handledTells here e) (handled here e)
   unfolding handledTells handled acted begun
@@ -107,7 +85,8 @@ module _ (es : Log) (e : Event) (t : Talk) (b : InBytes (es ▷ e)) (number : nu
       let r = begun here e in
       let s = passed r (here .mark) (e .start) in
       let p = passed-step es e all t r (here .mark) (e .start) a in
-      act-ends (e .kind) refl all (passedTells r (here .mark) (e .start)) s (λ x i. among-right (passedTells r (here .mark) (e .start)) i) p
+      act-ends (e .kind) refl all (passedTells r (here .mark) (e .start)) s (λ o. in-time (passed-recent r (here .mark) (e .start) o))
+      (λ x i. among-right (passedTells r (here .mark) (e .start)) i) p
 
 -- ---- any event, as the step answers it
 -- a link as a run that has made no report
@@ -122,7 +101,7 @@ Answered es e t a = Ends es e (listed (a .reports)) t (listed (a .reports)) (run
 
 same-run : (es : Log) (e : Event) (all : List Report) (t : Talk) (rs : List Report) (r : Run) (l : Link) → r .phase ≡ l .phase → r .named ≡ l .named → r .heard ≡ l .heard
     → Ends es e all t rs r → Ends es e all t rs (runAt l)
-same-run es e all t rs r l p n h (still-up k f a) = still-up k f (λ s. subst₃ (At (es ▷ e) (talked es e all t rs)) p n h (a s))
+same-run es e all t rs r l p n h (still-up k f a) = still-up k f (λ s m. subst₃ (At (es ▷ e) (talked es e all t rs)) p n h (a s (m ∙ sym n)))
 same-run es e all t rs r l p n h (over k f c) = over k f (sym (ap (λ (q : Phase). isConnected (q .state)) p) ∙ c)
 
 taken-ends : (es : Log) (e : Event) (t : Talk) → InBytes (es ▷ e) → numberAfter (takenOf es) e ≡ taken → AtLink es t → Answered es e t (takenBy (after ourStep es .link) e)
@@ -136,7 +115,7 @@ refused-ends : (es : Log) (e : Event) (t : Talk) (k : ℕ) → eqb (numberAfter 
 unfolding refusedBy listed isAmong talkAfter
 refused-ends es e t k n a =
     let l = after ourStep es .link in
-    still-up refl (each-none (Told es e [] t)) (λ _. at-more es e t (l .phase) (l .named) (l .heard) (refused-more es e n) a)
+    still-up refl (each-none (Told es e [] t)) (λ _ _. at-more es e t (l .phase) (l .named) (refused-more es e n) (l .heard) (λ _ b bytes s. refused s (eqb-false (numberAfter (takenOf es) e) taken n)) a)
 
 -- WHAT AN EVENT LEAVES OF A SESSION, and what its reports are
 pub event-ends : (es : Log) (e : Event) (t : Talk) → InBytes (es ▷ e) → AtLink es t
@@ -172,14 +151,14 @@ opens-at es e n c =
       opened = λ o. absurd (false≢true (sym (ap isOpen (x .state)) ∙ o));
     }
 
-goes-on : (es : Log) (e : Event) (t : Talk) (r : Run) (all : List Report) → Ends es e all t (reportsTo ourStep es e) r → (Says downReport (reportsTo ourStep es e) → ⊥)
-    → Session ourStep (es ▷ e) (talked es e all t (reportsTo ourStep es e)) → At (es ▷ e) (talked es e all t (reportsTo ourStep es e)) (r .phase) (r .named) (r .heard)
-goes-on es e t r all (still-up k f a) n s = a s
-goes-on es e t r all (over k f c) n s = absurd (n k)
+goes-on : (es : Log) (e : Event) (t : Talk) (r : Run) (all : List Report) → Ends es e all t (reportsTo ourStep es e) r
+    → after ourStep (es ▷ e) .link .named ≡ r .named → (Says downReport (reportsTo ourStep es e) → ⊥) → Session ourStep (es ▷ e) (talked es e all t (reportsTo ourStep es e)) → At (es ▷ e) (talked es e all t (reportsTo ourStep es e)) (r .phase) (r .named) (r .heard)
+goes-on es e t r all (still-up k f a) m n s = a s m
+goes-on es e t r all (over k f c) m n s = absurd (n k)
 
 -- THE LINK OF A SESSION is as the session says
 pub session-at : {es : Log} {t : Talk} → InBytes es → Session ourStep es t → AtLink es t
 unfolding InBytes
 session-at b (opens {es = es} {e = e} n c) = opens-at es e n c
 session-at b (lasts {es = es} {e = e} {t = t} s n) =
-    goes-on es e t _ (reportsTo ourStep es e) (event-ends es e t b (session-at (b .0) s)) n (lasts s n)
+    goes-on es e t _ (reportsTo ourStep es e) (event-ends es e t b (session-at (b .0) s)) refl n (lasts s n)

@@ -22,12 +22,12 @@ use Rattle.reports.specs.declared.Run.{Run}
 use Rattle.link.specs.Handling.{shut}
 use Rattle.link.proofs.Three.{tells, shutTells}
 use Rattle.demands.specs.Logs.{Log, _▷_, heardIn}
-use Rattle.demands.specs.Histories.{ourStep, isAmong}
+use Rattle.demands.specs.Histories.{ourStep, after, isAmong}
 use Rattle.demands.specs.Sessions.{Talk, talkAfter, Session}
 use Rattle.demands.proofs.Holding.{Idle, closing-idle}
 use Rattle.demands.proofs.Tiling.{moved-phase}
 use Rattle.demands.proofs.Saying.{Each, each-none, each-one, each-both}
-use Rattle.demands.proofs.Going.{At, at-more, never-starting, withReply, Told, talked, plain, Passes, up, gone, rests, damage-ends, goes-down, down-rests, says-first, says-second, says-none, talked-both, next}
+use Rattle.demands.proofs.Going.{At, SpeaksOn, at-more, never-starting, withReply, Told, talked, plain, Passes, up, gone, rests, damage-ends, goes-down, down-rests, says-first, says-second, says-none, talked-both, next}
 
 -- ---- no link is connected behind A, W or D
 only-down : (st : State) → isOpen st ≡ false → isStarting st ≡ false → isQuiet st ≡ false → isConnected st ≡ false
@@ -54,7 +54,8 @@ shut-leaves r reason =
 module _ (es : Log) (e : Event) (all : List Report) where
   pub data Ends (t : Talk) (rs : List Report) (r : Run) : Type 0 where
     still-up : isAmong downReport rs ≡ false → Each (Told es e all t) rs
-        → (Session ourStep (es ▷ e) (talked es e all t rs) → At (es ▷ e) (talked es e all t rs) (r .phase) (r .named) (r .heard)) → Ends t rs r
+        → (Session ourStep (es ▷ e) (talked es e all t rs) → after ourStep (es ▷ e) .link .named ≡ r .named
+        → At (es ▷ e) (talked es e all t rs) (r .phase) (r .named) (r .heard)) → Ends t rs r
     over : isAmong downReport rs ≡ true → Each (Told es e all t) rs → isConnected (r .phase .state) ≡ false → Ends t rs r
 
   -- behind passing time
@@ -67,7 +68,7 @@ module _ (es : Log) (e : Event) (all : List Report) where
       on (still-up k h b) =
           let p = talked-both es e all t reply rs ss q in
           still-up (says-none es e all rs ss n k) (each-both (Told es e all t) rs ss f h)
-          (λ v. subst (λ (u : Talk). At (es ▷ e) u (s .phase) (s .named) (s .heard)) (sym p) (b (subst (Session ourStep (es ▷ e)) p v)))
+          (λ v n. subst (λ (u : Talk). At (es ▷ e) u (s .phase) (s .named) (s .heard)) (sym p) (b (subst (Session ourStep (es ▷ e)) p v) n))
       on (over k h c) = over (says-second es e all rs ss k) (each-both (Told es e all t) rs ss f h) c
   behind t rs ss r s (gone n f q) g d =
       let x = d q in
@@ -78,10 +79,11 @@ module _ (es : Log) (e : Event) (all : List Report) where
   unfolding down isConnected
   down-unconnected p q = ap (λ (x : Phase). isConnected (x .state)) q
 
-  pub tick-ends : (t : Talk) (rs : List Report) (r : Run) → heardIn (es ▷ e) ≡ heardIn es → Passes es e all t rs r → Ends t (rs ++ []) r
+  pub tick-ends : (t : Talk) (rs : List Report) (r : Run) → heardIn (es ▷ e) ≡ heardIn es → (isOpen (r .phase .state) ≡ true → (u : Talk) → SpeaksOn es e u)
+      → Passes es e all t rs r → Ends t (rs ++ []) r
   unfolding isAmong talkAfter
-  tick-ends t rs r q p =
-      behind t rs [] r r p (λ u a. still-up refl (each-none (Told es e all u)) (λ _. at-more es e u (r .phase) (r .named) (r .heard) q a))
+  tick-ends t rs r q f p =
+      behind t rs [] r r p (λ u a. still-up refl (each-none (Told es e all u)) (λ _ _. at-more es e u (r .phase) (r .named) q (r .heard) (λ o. f o u) a))
       (λ d. (each-none (Told es e all t), down-unconnected (r .phase) d))
 
   -- ---- A, W AND D

@@ -1,7 +1,7 @@
--- A session going on: what the link of a session keeps (`At`), and that it keeps it while time passes and while an event closes what is open; the
--- reports made on the way are those that `Tells` says.
+-- A session going on: what the link of a session keeps (`At`), and that it keeps it while time passes (`passed-step`). Of each report made on the way
+-- it is shown what `Tells` says.
 -- Assumes nothing.
-use Prim.Native.Nat.{ℕ}
+use Prim.Native.Nat.{ℕ, _+_}
 use mathlib.Core.Bool.{Bool, true, false, not, _&&_, _||_, false≢true}
 use mathlib.Core.List.{List, [], _∷_, _++_}
 use mathlib.Core.Path.{_≡_, refl, sym, ap, _∙_, subst}
@@ -18,11 +18,10 @@ use Rattle.keys.specs.Keys.{goodPair}
 use Rattle.timing.specs.Timing.{isPassed}
 use Rattle.frame.specs.Read.{readOf, dataOf}
 use Rattle.events.specs.declared.Kind.the-variants.{Byte}
-use Rattle.events.specs.declared.Side.{Side}
 use Rattle.events.specs.declared.Side.the-variants.{Unit}
 use Rattle.events.specs.declared.Event.{Event}
 use Rattle.starts.specs.Starts.{isOver}
-use Rattle.talk.specs.Talk.{isFirst, headReason}
+use Rattle.talk.specs.Talk.{isFirst, headReason, firstReason}
 use Rattle.talk.specs.Talk.{begun as opening-message}
 use Rattle.talk.specs.declared.Reply.{Reply}
 use Rattle.talk.specs.declared.Reply.the-variants.{Never}
@@ -41,6 +40,7 @@ use Rattle.demands.specs.Logs.{Log, _▷_, heardIn, numberAfter, takenOf
 use Rattle.demands.specs.Histories.{ourStep, isAmong}
 use Rattle.demands.specs.Accounts.{namedBy}
 use Rattle.demands.specs.Sessions.{Frames, stops, pendingIn, Talk, afterReport, talkAfter, Session, inForce, gapBefore, Stray, Early, Turns}
+use Rattle.demands.specs.Messages.{Speaks, EndsInFrame}
 use Rattle.demands.proofs.Messages.{Kept, GoneOn}
 use Rattle.demands.proofs.Stopping.{Stopped, Answers}
 use Rattle.demands.proofs.Saying.{Each, each-none, each-one, each-both, says-both, talk-both}
@@ -56,16 +56,18 @@ pub record Fits (t : Talk) (p : Phase) : Type 0 where
   pub reply : p .reply ≡ t .reply
   pub kept : Kept (p .request) (p .asked) (pendingIn (t .kb1) (t .kb2) (t .frames))
 
--- a message held: the bytes from its first on went on with it
-pub record Holds (es : Log) (side : Side) (p : Phase) (named : ℕ) : Type 0 where
+-- a message held, from its first byte b on: the bytes behind that went on with it
+pub record Holds (es : Log) (t : Talk) (b : Event) (p : Phase) (named : ℕ) : Type 0 where
   pub head : ℕ
   pub rest : List ℕ
   pub bytes : drop named (heardIn es) ≡ head ∷ rest
   pub right : headReason (p .start .kb1) head ≡ noReason
-  pub gone : GoneOn side (opening-message side head) rest (p .message)
-  pub whose : p .message .side ≡ side
+  pub gone : GoneOn (b .side) (opening-message (b .side) head) rest (p .message)
+  pub whose : p .message .side ≡ b .side
+  pub spoken : Speaks ourStep t b es (head ∷ rest)
 
--- a message held or damage: its first byte, and whether that was early or stray; no report was made since, so that the session is the present one
+-- A message held or damage: its first byte, and whether that was early or stray; no report was made since, so that the session is the present one.
+-- While it is the only byte, a message is held if there is no reason against it.
 pub record Opened (es : Log) (t : Talk) (p : Phase) (named : ℕ) : Type 0 where
   pub before : Log
   pub byte : Event
@@ -76,7 +78,9 @@ pub record Opened (es : Log) (t : Talk) (p : Phase) (named : ℕ) : Type 0 where
   pub session : Session ourStep (before ▷ byte) t
   pub hasty : (lossReason p noReason ≡ early) ↔ Early t (gapBefore (takenOf before) byte) byte
   pub astray : (lossReason p noReason ≡ stray) ↔ Stray t (gapBefore (takenOf before) byte) byte
-  pub held : isHeld (p .state) ≡ true → Holds es (byte .side) p named
+  pub fresh : length (heardIn es) ≡ named + 1 → firstReason (t .kb1) (t .reply) (inForce t) (byte .side) (byte .value) (gapBefore (takenOf before) byte) ≡ noReason
+      → isHeld (p .state) ≡ true
+  pub held : isHeld (p .state) ≡ true → Holds es t byte p named
 
 -- a phase with bytes named and heard, behind es in the session t
 pub record At (es : Log) (t : Talk) (p : Phase) (named heard : ℕ) : Type 0 where
@@ -85,38 +89,44 @@ pub record At (es : Log) (t : Talk) (p : Phase) (named heard : ℕ) : Type 0 whe
   pub calm : isQuiet (p .state) ≡ true → named ≡ heard
   pub opened : isOpen (p .state) ≡ true → Opened es t p named
 
--- an event that is no byte heard changes nothing of this
-holds-more : (es : Log) (e : Event) (side : Side) (p : Phase) (named : ℕ) → heardIn (es ▷ e) ≡ heardIn es → Holds es side p named → Holds (es ▷ e) side p named
-holds-more es e side p named q h = record {
-  head = h .head;
-  rest = h .rest;
-  bytes = ap (drop named) q ∙ h .bytes;
-  right = h .right;
-  gone = h .gone;
-  whose = h .whose;
-}
+-- an event that is no byte heard, and leaves a message open, changes nothing of this
+abbrev pub SpeaksOn : Log → Event → Talk → Type 0
+SpeaksOn es e t = (b : Event) (bytes : List ℕ) → Speaks ourStep t b es bytes → Speaks ourStep t b (es ▷ e) bytes
 
-opened-more : (es : Log) (e : Event) (t : Talk) (p : Phase) (named : ℕ) → heardIn (es ▷ e) ≡ heardIn es → Opened es t p named → Opened (es ▷ e) t p named
-opened-more es e t p named q o = record {
-  before = o .before;
-  byte = o .byte;
-  begins = more (o .begins);
-  kind = o .kind;
-  number = o .number;
-  index = o .index;
-  session = o .session;
-  hasty = o .hasty;
-  astray = o .astray;
-  held = λ h. holds-more es e (o .byte .side) p named q (o .held h);
-}
+module _ (es : Log) (e : Event) (t : Talk) (p : Phase) (named : ℕ) (same : heardIn (es ▷ e) ≡ heardIn es) where
+  holds-more : (b : Event) → SpeaksOn es e t → Holds es t b p named → Holds (es ▷ e) t b p named
+  holds-more b f h = record {
+    head = h .head;
+    rest = h .rest;
+    bytes = ap (drop named) same ∙ h .bytes;
+    right = h .right;
+    gone = h .gone;
+    whose = h .whose;
+    spoken = f b (h .head ∷ h .rest) (h .spoken);
+  }
 
-pub at-more : (es : Log) (e : Event) (t : Talk) (p : Phase) (named heard : ℕ) → heardIn (es ▷ e) ≡ heardIn es → At es t p named heard → At (es ▷ e) t p named heard
-at-more es e t p named heard q a = record {
-  fits = a .fits;
-  bytes = a .bytes ∙ sym (ap length q);
-  calm = a .calm;
-  opened = λ o. opened-more es e t p named q (a .opened o);
-}
+  opened-more : SpeaksOn es e t → Opened es t p named → Opened (es ▷ e) t p named
+  opened-more f o = record {
+    before = o .before;
+    byte = o .byte;
+    begins = more (o .begins);
+    kind = o .kind;
+    number = o .number;
+    index = o .index;
+    session = o .session;
+    hasty = o .hasty;
+    astray = o .astray;
+    fresh = λ n. o .fresh (sym (ap length same) ∙ n);
+    held = λ h. holds-more (o .byte) f (o .held h);
+  }
+
+  pub at-more : (heard : ℕ) → (isOpen (p .state) ≡ true → SpeaksOn es e t) → At es t p named heard → At (es ▷ e) t p named heard
+  at-more heard f a = record {
+    fits = a .fits;
+    bytes = a .bytes ∙ sym (ap length same);
+    calm = a .calm;
+    opened = λ o. opened-more (f o) (a .opened o);
+  }
 
 -- ---- states
 pub open-or-quiet : (st : State) → isConnected st ≡ true → isOpen st ≡ false → isQuiet st ≡ true
@@ -139,6 +149,7 @@ never-starting Damage c s = false≢true s
 -- a report of the event e behind es, in a session with these key bytes and these frames; `all` are the event's reports
 pub record Tells (es : Log) (e : Event) (kb1 kb2 : ℕ) (fs : Frames) (all : List Report) (x : Report) : Type 0 where
   pub reads : x .number ≡ frameReport → readOf kb1 kb2 (namedBy (heardIn (es ▷ e)) x) .no ≡ taken
+  pub spoken : x .number ≡ frameReport → EndsInFrame ourStep es e (namedBy (heardIn (es ▷ e)) x)
   pub turns : (x .number ≡ frameReport) ⊎ (x .number ≡ damageReport) → Turns ourStep (es ▷ e) x
   pub answers : x .number ≡ downReport → x .reason ≡ stopped → Answers kb1 kb2 fs (e .side) (heardIn (es ▷ e)) all
   pub stops : x .number ≡ frameReport → e .side ≡ Unit → stops (pendingIn kb1 kb2 fs) (dataOf kb1 kb2 (namedBy (heardIn (es ▷ e)) x)) ≡ true → Stopped all
@@ -159,6 +170,7 @@ module _ (es : Log) (e : Event) (all : List Report) where
   pub plain : (t : Talk) (x : Report) → (x .number ≡ frameReport → ⊥) → (x .number ≡ damageReport → ⊥) → (x .number ≡ downReport → x .reason ≡ stopped → ⊥) → Told t x
   plain t x f d s = record {
     reads = λ n. absurd (f n);
+    spoken = λ n. absurd (f n);
     turns = λ n. absurd (⊎-elim f d n);
     answers = λ n r. absurd (s n r);
     stops = λ n u r. absurd (f n);
@@ -223,6 +235,7 @@ module _ (es : Log) (e : Event) (all : List Report) where
       let g = same-loss (r .phase) why stray k (λ z. omega arith) in
       record {
         reads = λ n. absurd (omega arith);
+        spoken = λ n. absurd (omega arith);
         turns = λ _. turned t (r .phase) (r .named) (reportOf r damageReport (lossReason (r .phase) why)) o refl (λ q. f .0 (q .1), λ q. (refl, f .1 q)) (λ q. g .0 (q .1), λ q. (refl, g .1 q));
         answers = λ n. absurd (omega arith);
         stops = λ n. absurd (omega arith);

@@ -3,11 +3,11 @@
 -- Assumes nothing.
 use Prim.Native.Nat.{ℕ, _+_, _-_, _≤_, _<_}
 use mathlib.Core.Bool.{Bool, true, false, not, _&&_, _||_, false≢true}
-use mathlib.Core.List.{List, [], _∷_, _++_}
+use mathlib.Core.List.{List, [], _∷_, _++_, append-nil}
 use mathlib.Core.Path.{_≡_, refl, sym, ap, ap₂, _∙_, subst}
 use mathlib.Core.Logic.{_↔_, ⊎-elim}
 use native.Mathlib.Omega.{arith}
-use borrow.Author.Tests.{eq-eqb, eqb-true, not-false}
+use borrow.Author.Tests.{eq-eqb, eqb-true, eqb-false, not-false}
 use lib.Dec.{eqb}
 use lib.ListN.{length, getD, take, drop, length-append, length-drop}
 use lib.Seq.{take-all, drop-append-le, drop-at, getD-drop}
@@ -33,7 +33,7 @@ use Rattle.talk.specs.declared.Reply.the-variants.{First, Further}
 use Rattle.talk.specs.declared.Request.{Request}
 use Rattle.talk.specs.declared.Request.the-variants.{Ordinary, Stop, OwnTiming, NewTiming}
 use Rattle.talk.specs.declared.Message.{Message}
-use Rattle.talk.proofs.Frames.{isMessage, message-reads}
+use Rattle.talk.proofs.Frames.{endsIn, isMessage, message-reads}
 use Rattle.phases.specs.Phases.{isQuiet, isHeld, isOpen, isConnected, down, talking, holding, damaged, timed, asked, answered, framed}
 use Rattle.phases.specs.declared.State.{State}
 use Rattle.phases.specs.declared.State.the-variants.{Down, Starting, Quiet, Held, Damage}
@@ -46,11 +46,13 @@ use Rattle.reports.specs.declared.Run.{Run}
 use Rattle.link.specs.Handling.{hearing, byteHeard}
 use Rattle.link.proofs.Three.{tells, byteTells}
 use Rattle.demands.specs.Logs.{Log, _▷_, markOf, heardIn, numberAfter, takenOf, whole, more}
-use Rattle.demands.specs.Histories.{ourStep, isAmong, Among, first, later}
+use Rattle.demands.specs.Histories.{ourStep, after, isAmong, Among, first, later}
 use Rattle.demands.specs.Accounts.{namedBy}
 use Rattle.demands.specs.Sessions.{Frame, Frames, _▸_, stops, resets, retimes, codesIn, pendingIn, windowsIn, Talk, afterReport, talkAfter, Session, inForce, gapBefore, Stray, Early}
-use Rattle.demands.proofs.Messages.{Carries, Kept, begun as fresh, on, gone-by, gone-ends, ends-now, kept-asked, message-carries, reply-windows, reply-request, reply-stops}
+use Rattle.demands.proofs.Messages.{Carries, Kept, begun as gone-none, on, gone-by, gone-ends, ends-now, kept-asked, message-carries, reply-windows, reply-request, reply-stops}
+use Rattle.demands.specs.Messages.{InTime, Speaks, begins, grows}
 use Rattle.demands.proofs.Tiling.{sum-is}
+use Rattle.demands.proofs.Listening.{Bytes, byte-longer, begins-longer, alone-is}
 use Rattle.demands.proofs.Saying.{Each, each-none, each-one, each-both}
 use Rattle.demands.proofs.Turns.{same-is, has-side, first-early, first-stray, first-head, later-elsewhere}
 use Rattle.demands.proofs.Stopping.{Stopped}
@@ -58,10 +60,10 @@ use Rattle.demands.proofs.Going.{Fits, Holds, Opened, At, Told, plain, 
 use Rattle.demands.proofs.Ending.{Ends, still-up, over}
 
 -- ---- small laws
-within : (n : ℕ) (l : List ℕ) (x : ℕ) (xs : List ℕ) → drop n l ≡ x ∷ xs → n ≤ length l
+pub within : (n : ℕ) (l : List ℕ) (x : ℕ) (xs : List ℕ) → drop n l ≡ x ∷ xs → n ≤ length l
 within n l x xs q = let z = ap length q in let y = length-drop n l in omega arith
 
-grown-side : (m : Message) (v : ℕ) → grown m v .side ≡ m .side
+pub grown-side : (m : Message) (v : ℕ) → grown m v .side ≡ m .side
 unfolding grown withData
 grown-side m v = by-part (m .part) refl
   where
@@ -127,7 +129,7 @@ pending-answered kb1 kb2 fs f c = rw c
 -- ---- a byte e, behind es
 module _ (es : Log) (e : Event) (all : List Report) (kind : e .kind ≡ Byte) (number : numberAfter (takenOf es) e ≡ taken)
     (one-more : heardIn (es ▷ e) ≡ heardIn es ++ (e .value ∷ [])) (room : length (heardIn es) ≤ 4_000_000_000)
-    (byte : (i : ℕ) → getD (heardIn (es ▷ e)) i 0 < 256) (mark : Micros) (mark-is : mark ≡ markOf (takenOf es)) where
+    (before-byte : Bytes (heardIn es)) (byte : Bytes (heardIn (es ▷ e))) (mark : Micros) (mark-is : mark ≡ markOf (takenOf es)) where
   sided : isNobody (e .side) ≡ false
   sided = has-side (takenOf es) e number kind
 
@@ -150,20 +152,24 @@ module _ (es : Log) (e : Event) (all : List Report) (kind : e .kind ≡ Byte) (n
 
   -- a byte that makes no report
   silent-byte : (t : Talk) (r : Run) (q : Phase) → isQuiet (q .state) ≡ false
-      → (Session ourStep (es ▷ e) t → At (es ▷ e) t q (r .named) (countSum (r .heard) 1)) → Heard t r (still q)
+      → (Session ourStep (es ▷ e) t → after ourStep (es ▷ e) .link .named ≡ r .named → At (es ▷ e) t q (r .named) (countSum (r .heard) 1)) → Heard t r (still q)
   unfolding tells moved afterStop isAmong talkAfter
   silent-byte t r q n f _ =
       by-test (λ (m : Move). Ends es e all t ([] ++ tells (withPhase (hearing r) q) m) (moved (withPhase (hearing r) q) m)) (isQuiet (q .state) && isStopped (q .request))
       (λ c. absurd (false≢true (sym n ∙ and-split (isQuiet (q .state)) _ c .0))) (λ _. still-up refl (each-none (Told es e all t)) f)
 
   -- ---- the first byte of a message
-  module _ (t : Talk) (p : Phase) (named heard : ℕ) (a : At es t p named heard) (quiet : isQuiet (p .state) ≡ true) (s : Session ourStep (es ▷ e) t) where
+  module _ (t : Talk) (p : Phase) (named heard : ℕ) (a : At es t p named heard) (quiet : isQuiet (p .state) ≡ true) (s : Session ourStep (es ▷ e) t)
+      (last : after ourStep (es ▷ e) .link .named ≡ named) where
     abbrev reason : ℕ
     reason = reasonAtFirst p (e .side) (e .value) (gapOf mark (e .start))
 
     reason-is : reason ≡ firstReason (p .start .kb1) (t .reply) (inForce t) (e .side) (e .value) (gapBefore (takenOf es) e)
     unfolding reasonAtFirst
     reason-is i = firstReason (p .start .kb1) (a .fits .reply i) (a .fits .windows i) (e .side) (e .value) (gapOf (mark-is i) (e .start))
+
+    reason-by : reason ≡ firstReason (t .kb1) (t .reply) (inForce t) (e .side) (e .value) (gapBefore (takenOf es) e)
+    reason-by = reason-is ∙ ap (λ (k : ℕ). firstReason k (t .reply) (inForce t) (e .side) (e .value) (gapBefore (takenOf es) e)) (a .fits .kb1)
 
     reason-early : (k : ℕ) → k ≡ reason → (k ≡ early) ↔ Early t (gapBefore (takenOf es) e) e
     reason-early k q = rw (q ∙ reason-is) (first-early t (gapBefore (takenOf es) e) e sided (p .start .kb1))
@@ -192,20 +198,29 @@ module _ (es : Log) (e : Event) (all : List Report) (kind : e .kind ≡ Byte) (n
             session = s;
             hasty = reason-early noReason (sym z);
             astray = reason-stray noReason (sym z);
+            fresh = λ _ _. refl;
             held = λ _. record {
               head = e .value;
               rest = [];
               bytes = ap (drop named) one-more ∙ drop-at (heardIn es) (e .value ∷ []) named named-is;
               right = first-head (p .start .kb1) (p .reply) (p .windows) (e .side) (e .value) (gapOf mark (e .start)) z;
-              gone = fresh;
+              gone = gone-none;
               whose = refl;
+              spoken = begins (record {
+                session = s;
+                kind = kind;
+                number = number;
+                alone = alone-is es e one-more (named-is ∙ sym last);
+                timely = λ q. let k = reason-early noReason (sym z) .1 q in omega arith;
+                expected = λ q. let k = reason-stray noReason (sym z) .1 q in omega arith;
+              });
             };
           };
         }
 
-    first-damaged : At (es ▷ e) t (damaged p reason) named (countSum heard 1)
+    first-damaged : (reason ≡ noReason → ⊥) → At (es ▷ e) t (damaged p reason) named (countSum heard 1)
     unfolding damaged talking isConnected isQuiet lossReason isHeld
-    first-damaged =
+    first-damaged n =
         let f = a .fits in
         record {
           fits = record { connected = refl; good = f .good; kb1 = f .kb1; kb2 = f .kb2; windows = f .windows; reply = f .reply; kept = f .kept };
@@ -221,6 +236,7 @@ module _ (es : Log) (e : Event) (all : List Report) (kind : e .kind ≡ Byte) (n
             session = s;
             hasty = reason-early reason refl;
             astray = reason-stray reason refl;
+            fresh = λ _ z. absurd (n (reason-by ∙ z));
             held = λ h. absurd (false≢true h);
           };
         }
@@ -228,7 +244,7 @@ module _ (es : Log) (e : Event) (all : List Report) (kind : e .kind ≡ Byte) (n
     first-at : At (es ▷ e) t (firstByte p (e .side) (e .value) (gapOf mark (e .start))) named (countSum heard 1)
     unfolding firstByte
     first-at =
-        by-test (λ (q : Phase). At (es ▷ e) t q named (countSum heard 1)) (eqb reason noReason) (λ c. first-held (eqb-true reason noReason c)) (λ _. first-damaged)
+        by-test (λ (q : Phase). At (es ▷ e) t q named (countSum heard 1)) (eqb reason noReason) (λ c. first-held (eqb-true reason noReason c)) (λ c. first-damaged (eqb-false reason noReason c))
 
   first-opens : (p : Phase) (gap : Micros) → isQuiet (firstByte p (e .side) (e .value) gap .state) ≡ false
   unfolding firstByte holding damaged talking isQuiet
@@ -239,12 +255,12 @@ module _ (es : Log) (e : Event) (all : List Report) (kind : e .kind ≡ Byte) (n
   first-ends : (t : Talk) (r : Run) → At es t (r .phase) (r .named) (r .heard) → isQuiet (r .phase .state) ≡ true
       → Heard t r (still (firstByte (r .phase) (e .side) (e .value) (gapOf mark (e .start))))
   first-ends t r a q =
-      silent-byte t r _ (first-opens (r .phase) (gapOf mark (e .start))) (λ s. first-at t (r .phase) (r .named) (r .heard) a q s)
+      silent-byte t r _ (first-opens (r .phase) (gapOf mark (e .start))) (λ s n. first-at t (r .phase) (r .named) (r .heard) a q s n)
 
   -- ---- a later byte
   -- what is open goes on
   still-open : (t : Talk) (p q : Phase) (named : ℕ) (o : Opened es t p named) → ((lossReason q noReason ≡ early) ↔ (lossReason p noReason ≡ early))
-      → ((lossReason q noReason ≡ stray) ↔ (lossReason p noReason ≡ stray)) → (isHeld (q .state) ≡ true → Holds (es ▷ e) (o .byte .side) q named)
+      → ((lossReason q noReason ≡ stray) ↔ (lossReason p noReason ≡ stray)) → (isHeld (q .state) ≡ true → Holds (es ▷ e) t (o .byte) q named)
       → Opened (es ▷ e) t q named
   still-open t p q named o f g h = record {
     before = o .before;
@@ -256,6 +272,13 @@ module _ (es : Log) (e : Event) (all : List Report) (kind : e .kind ≡ Byte) (n
     session = o .session;
     hasty = (λ x. o .hasty .0 (f .0 x), λ x. f .1 (o .hasty .1 x));
     astray = (λ x. o .astray .0 (g .0 x), λ x. g .1 (o .astray .1 x));
+    fresh = λ n.
+        let longer = begins-longer (o .begins) in
+        let first = byte-longer (o .before) (o .byte) (o .number) (o .kind) in
+        let size = ap length one-more in
+        let one = length-append (heardIn es) (e .value ∷ []) in
+        let index = o .index in
+        absurd (omega arith);
     held = h;
   }
 
@@ -271,10 +294,11 @@ module _ (es : Log) (e : Event) (all : List Report) (kind : e .kind ≡ Byte) (n
 
   damage-ends : (t : Talk) (r : Run) → At es t (r .phase) (r .named) (r .heard) → r .phase .state ≡ Damage → Heard t r (still (r .phase))
   unfolding isQuiet
-  damage-ends t r a st = silent-byte t r (r .phase) (ap isQuiet st) (λ _. skipped-at t (r .phase) (r .named) (r .heard) a st)
+  damage-ends t r a st = silent-byte t r (r .phase) (ap isQuiet st) (λ _ _. skipped-at t (r .phase) (r .named) (r .heard) a st)
 
   -- a message goes on, is damaged, or ends
-  module _ (t : Talk) (r : Run) (a : At es t (r .phase) (r .named) (r .heard)) (o : Opened es t (r .phase) (r .named)) (h : isHeld (r .phase .state) ≡ true) where
+  module _ (t : Talk) (r : Run) (a : At es t (r .phase) (r .named) (r .heard)) (o : Opened es t (r .phase) (r .named)) (h : isHeld (r .phase .state) ≡ true)
+      (near : InTime (takenOf es) e) where
     abbrev wrong : ℕ
     wrong = laterReason (r .phase .message) (e .side) (e .value)
 
@@ -294,7 +318,7 @@ module _ (es : Log) (e : Event) (all : List Report) (kind : e .kind ≡ Byte) (n
               (same-reason wrong early (x .0) (λ z. omega arith)) (same-reason wrong stray (x .1) (λ z. omega arith)) (λ y. absurd (false≢true y));
         }
 
-    abbrev held : Holds es (o .byte .side) (r .phase) (r .named)
+    abbrev held : Holds es t (o .byte) (r .phase) (r .named)
     held = o .held h
 
     -- its bytes, with this one
@@ -307,11 +331,29 @@ module _ (es : Log) (e : Event) (all : List Report) (kind : e .kind ≡ Byte) (n
         ∙ drop-append-le (r .named) (heardIn es) (e .value ∷ []) (within (r .named) (heardIn es) (held .head) (held .rest) (held .bytes))
         ∙ ap (λ (l : List ℕ). l ++ (e .value ∷ [])) (held .bytes)
 
+    right-head : eqb (headReason (t .kb1) (held .head)) noReason ≡ true
+    right-head = eq-eqb (headReason (t .kb1) (held .head)) noReason (sym (ap (λ (k : ℕ). headReason k (held .head)) (a .fits .kb1)) ∙ held .right)
+
     side-is : wrong ≡ noReason → e .side ≡ o .byte .side
     side-is w = later-side (r .phase .message) (e .side) (e .value) w ∙ held .whose
 
     right-is : wrong ≡ noReason → laterReason (r .phase .message) (o .byte .side) (e .value) ≡ noReason
     right-is w = sym (ap (λ (x : Side). laterReason (r .phase .message) x (e .value)) (side-is w)) ∙ w
+
+    -- the message so far is not yet one that `read` takes, and so goes on
+    front-byte : Bytes (held .head ∷ held .rest)
+    front-byte i = subst (λ (l : List ℕ). getD l i 0 < 256) (held .bytes) (rw (getD-drop (r .named) (heardIn es) i 0) (before-byte (r .named + i)))
+
+    not-yet : readOf (t .kb1) (t .kb2) (held .head ∷ held .rest) .no ≡ taken → ⊥
+    not-yet q =
+        let side = o .byte .side in
+        let m = message-reads (t .kb1) (t .kb2) side (held .head ∷ held .rest) (a .fits .good) front-byte ∙ eq-eqb _ taken q in
+        let k = ap (endsIn side (begun side (held .head))) (sym (append-nil (held .rest)))
+        ∙ gone-ends side (begun side (held .head)) (r .phase .message) (held .rest) [] (held .gone) in
+        false≢true (sym (rw (right-head) k) ∙ m)
+
+    speaks-on : wrong ≡ noReason → Speaks ourStep t (o .byte) (es ▷ e) slice
+    speaks-on w = grows (held .spoken) not-yet number kind (side-is w) near
 
     later-held : wrong ≡ noReason → isSum (r .phase .message .part) ≡ false
         → At (es ▷ e) t (holding (r .phase) (grown (r .phase .message) (e .value))) (r .named) (countSum (r .heard) 1)
@@ -331,6 +373,7 @@ module _ (es : Log) (e : Event) (all : List Report) (kind : e .kind ≡ Byte) (n
                 right = held .right;
                 gone = on (e .value) (held .gone) (right-is w) n;
                 whose = grown-side (r .phase .message) (e .value) ∙ held .whose;
+                spoken = speaks-on w;
               });
         }
 
@@ -360,7 +403,7 @@ module _ (es : Log) (e : Event) (all : List Report) (kind : e .kind ≡ Byte) (n
       -- they are a message that ends here, so `read` takes them
       message : isMessage (t .kb1) (o .byte .side) slice ≡ true
       message =
-          rw (eq-eqb (headReason (t .kb1) (held .head)) noReason (sym (ap (λ (k : ℕ). headReason k (held .head)) (a .fits .kb1)) ∙ held .right))
+          rw right-head
           (gone-ends (o .byte .side) (begun (o .byte .side) (held .head)) (r .phase .message) (held .rest) (e .value ∷ []) (held .gone)
           ∙ ends-now (o .byte .side) (r .phase .message) (e .value) (right-is w) last)
 
@@ -431,6 +474,14 @@ module _ (es : Log) (e : Event) (all : List Report) (kind : e .kind ≡ Byte) (n
           let never : (k : ℕ) → (noReason ≡ k → ⊥) → lossReason (r .phase) noReason ≡ k → ⊥ = λ k n q. n (sym (held-loss (r .phase) noReason h) ∙ q) in
           record {
             reads = λ _. reads;
+            spoken = λ _. record {
+              talk = t;
+              first = o .byte;
+              message = subst (Speaks ourStep t (o .byte) (es ▷ e)) (sym names) (speaks-on w);
+              kind = kind;
+              number = number;
+              read = reads;
+            };
             turns = λ _. turned es e all t (r .phase) (r .named) x o refl
                 (λ q. absurd (let z = q .0 in omega arith), λ q. absurd (never early (λ z. omega arith) q))
                 (λ q. absurd (let z = q .0 in omega arith), λ q. absurd (never stray (λ z. omega arith) q));
@@ -448,6 +499,7 @@ module _ (es : Log) (e : Event) (all : List Report) (kind : e .kind ≡ Byte) (n
       unfolding reportOf
       stop-told q i u z = record {
         reads = λ n. absurd (omega arith);
+        spoken = λ n. absurd (omega arith);
         turns = λ n. absurd (⊎-elim (λ k. omega arith) (λ k. omega arith) n);
         answers = λ _ _. record { report = x; made = i; number = refl; unit = u; stop = z };
         stops = λ n. absurd (omega arith);
@@ -468,7 +520,7 @@ module _ (es : Log) (e : Event) (all : List Report) (kind : e .kind ≡ Byte) (n
       unfolding tells moved told reportOf namesBytes isAmong talkAfter afterReport
       frame-on q st f n =
           still-up refl (each-both (Told es e all t) (x ∷ []) [] (each-one (Told es e all t) x (frame-told (λ u z. absurd (n u z)))) (each-none (Told es e all t)))
-          (λ _. frame-at q st f)
+          (λ _ _. frame-at q st f)
 
       frame-over : (q : Phase) → e .side ≡ Unit → Stops
           → Each (λ (z : Report). Among z all) (tells (hearing r) (makes frameReport noReason q) ++ tells (behindFrame q) (makes downReport stopped down))
@@ -535,26 +587,26 @@ module _ (es : Log) (e : Event) (all : List Report) (kind : e .kind ≡ Byte) (n
     later-ends =
         let m = r .phase .message in
         by-test (λ (x : Move). Heard t r x) (not (eqb wrong noReason)) {x = still (damaged (r .phase) wrong)}
-        (λ _. silent-byte t r (damaged (r .phase) wrong) (damaged-open wrong) (λ _. later-damaged))
+        (λ _. silent-byte t r (damaged (r .phase) wrong) (damaged-open wrong) (λ _ _. later-damaged))
         (λ c.
         let z = eqb-true wrong noReason (not-false (eqb wrong noReason) c) in
         by-test (λ (x : Move). Heard t r x) (isSum (m .part)) {x = makes frameReport noReason (framed (r .phase))} {y = still (holding (r .phase) (grown m (e .value)))}
-        (λ s. frame-ends z s) (λ s. silent-byte t r (holding (r .phase) (grown m (e .value))) (holding-open (grown m (e .value))) (λ _. later-held z s)))
+        (λ s. frame-ends z s) (λ s. silent-byte t r (holding (r .phase) (grown m (e .value))) (holding-open (grown m (e .value))) (λ _ _. later-held z s)))
 
   -- ---- ANY BYTE OF A SESSION
-  byte-in : (st : State) (t : Talk) (r : Run) → r .phase .state ≡ st → At es t (r .phase) (r .named) (r .heard)
+  byte-in : (st : State) (t : Talk) (r : Run) → (isOpen (r .phase .state) ≡ true → InTime (takenOf es) e) → r .phase .state ≡ st → At es t (r .phase) (r .named) (r .heard)
       → Heard t r (byteIn st (r .phase) (e .side) (e .value) mark (e .start))
   unfolding isConnected isQuiet isHeld isOpen
-  byte-in Down t r st a = absurd (false≢true (sym (ap isConnected st) ∙ a .fits .connected))
-  byte-in Starting t r st a = absurd (false≢true (sym (ap isConnected st) ∙ a .fits .connected))
-  byte-in Quiet t r st a = first-ends t r a (ap isQuiet st)
-  byte-in Held t r st a = later-ends t r a (a .opened (ap isOpen st)) (ap isHeld st)
-  byte-in Damage t r st a = damage-ends t r a st
+  byte-in Down t r f st a = absurd (false≢true (sym (ap isConnected st) ∙ a .fits .connected))
+  byte-in Starting t r f st a = absurd (false≢true (sym (ap isConnected st) ∙ a .fits .connected))
+  byte-in Quiet t r f st a = first-ends t r a (ap isQuiet st)
+  byte-in Held t r f st a = later-ends t r a (a .opened (ap isOpen st)) (ap isHeld st) (f (ap isOpen st))
+  byte-in Damage t r f st a = damage-ends t r a st
 
-  pub byte-ends : (t : Talk) (r : Run) → At es t (r .phase) (r .named) (r .heard) → Each (λ (x : Report). Among x all) (byteTells r e mark)
+  pub byte-ends : (t : Talk) (r : Run) → (isOpen (r .phase .state) ≡ true → InTime (takenOf es) e) → At es t (r .phase) (r .named) (r .heard) → Each (λ (x : Report). Among x all) (byteTells r e mark)
       → Ends es e all t (byteTells r e mark) (byteHeard r e mark)
   unfolding byteTells byteHeard afterByte
-  byte-ends t r a = byte-in (r .phase .state) t r refl a
+  byte-ends t r f a = byte-in (r .phase .state) t r f refl a
 
   -- a byte of a link that is down
   record Outside (t : Talk) (r : Run) (m : Move) : Type 0 where

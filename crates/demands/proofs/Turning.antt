@@ -11,9 +11,11 @@ use Rattle.events.specs.declared.Event.{Event}
 use Rattle.phases.specs.Phases.{isConnected}
 use Rattle.reports.specs.declared.Report.{Report}
 use Rattle.reports.specs.declared.Run.{Run}
-use Rattle.demands.specs.Logs.{Log, _▷_, InBytes}
+use Rattle.demands.specs.Logs.{Log, _▷_, heardIn, InBytes}
 use Rattle.demands.specs.Histories.{ourStep, after, reportsTo, Among}
+use Rattle.demands.specs.Accounts.{namedBy}
 use Rattle.demands.specs.Sessions.{Talk, Session, Reads, Turns}
+use Rattle.demands.specs.Messages.{EndsInFrame}
 use Rattle.demands.proofs.Saying.{Each}
 use Rattle.demands.proofs.Stopping.{Stopped, AnswersStop}
 use Rattle.demands.proofs.Going.{Told}
@@ -45,6 +47,13 @@ pub frames-read : (es : Log) (e : Event) (r : Report) → InBytes (es ▷ e) →
 frames-read es e r b i n =
     let x = comes-in es e r b i (inl n) in
     record { talk = x .talk; session = x .session; reads = told-in es e (x .talk) b (x .session) r i .reads n }
+
+-- and it ends a message of the history (its converse is in `Speaking`)
+pub frames-end : (es : Log) (e : Event) (r : Report) → InBytes (es ▷ e) → Among r (reportsTo ourStep es e) → r .number ≡ frameReport
+    → EndsInFrame ourStep es e (namedBy (heardIn (es ▷ e)) r)
+frames-end es e r b i n =
+    let x = comes-in es e r b i (inl n) in
+    told-in es e (x .talk) b (x .session) r i .spoken n
 
 -- A MESSAGE'S FIRST BYTE WAS EARLY OR STRAY exactly if its report says so
 pub turns-exactly : (es : Log) (e : Event) (r : Report) → InBytes (es ▷ e) → Among r (reportsTo ourStep es e)

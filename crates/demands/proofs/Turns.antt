@@ -6,19 +6,20 @@ use mathlib.Core.Bool.{Bool, true, false, not, _&&_, _||_, false≢true, or-true
 use mathlib.Core.Path.{_≡_, refl, sym, _∙_}
 use mathlib.Core.Logic.{_↔_, _⊎_, inl, inr, ⊎-elim}
 use native.Mathlib.Omega.{arith}
-use borrow.Author.Tests.{ltb-true, lt-ltb, eqb-true, eqb-false}
+use borrow.Author.Tests.{ltb-true, lt-ltb, eq-eqb, eqb-true, eqb-false}
 use lib.Dec.{eqb}
 use Rattle.base.specs.Choice.{if_then_else_}
 use Rattle.base.specs.Numbers.{taken, unknown}
 use Rattle.base.specs.Reports.{noReason, early, stray, modeOne, wrongForm, wrongLength, wrongSum, otherSide}
 use Rattle.base.proofs.Tests.{or-split, by-test}
+use Rattle.units.specs.Units.{isEarlier}
 use Rattle.units.specs.declared.Micros.{Micros}
 use Rattle.keys.specs.Keys.{takesForm}
 use Rattle.timing.specs.Timing.{isPassed}
 use Rattle.timing.specs.declared.Windows.{Windows}
 use Rattle.frame.specs.Layout.{formatForm}
 use Rattle.events.specs.Events.{isTester, isUnit, isNobody, sameSide, isByte, isOther, isUnknown, refusal}
-use Rattle.events.specs.declared.Kind.the-variants.{Byte}
+use Rattle.events.specs.declared.Kind.the-variants.{Byte, Other}
 use Rattle.events.specs.declared.Side.{Side}
 use Rattle.events.specs.declared.Side.the-variants.{Tester, Unit, Nobody}
 use Rattle.events.specs.declared.Event.{Event}
@@ -68,16 +69,21 @@ same-is Nobody Tester e = absurd (false≢true e)
 same-is Nobody Unit e = absurd (false≢true e)
 same-is Nobody Nobody e = refl
 
--- a byte that is taken has a side
+-- an event that is taken has a known kind, and a byte a side
+known : (log : Log) (e : Event) → numberAfter log e ≡ taken → isUnknown e ≡ false
+unfolding numberAfter refusal
+known log e h = passed-by (isUnknown e) unknown _ taken (λ z. omega arith) h
+
+pub not-other : (log : Log) (e : Event) → numberAfter log e ≡ taken → e .kind ≡ Other → ⊥
+unfolding isUnknown isOther
+not-other log e h k = false≢true (sym (known log e h) ∙ (λ i. isOther (k i) || (isByte (k i) && isNobody (e .side))))
+
 pub has-side : (log : Log) (e : Event) → numberAfter log e ≡ taken → e .kind ≡ Byte → isNobody (e .side) ≡ false
-unfolding numberAfter refusal isUnknown isByte isOther
+unfolding isUnknown isByte isOther
 has-side log e h k = by-side (isNobody (e .side)) refl
   where
-    known : isUnknown e ≡ false
-    known = passed-by (isUnknown e) unknown _ taken (λ z. omega arith) h
-
     by-side : (b : Bool) → isNobody (e .side) ≡ b → b ≡ false
-    by-side true s = sym (sym known ∙ (λ i. isOther (k i) || (isByte (k i) && s i)))
+    by-side true s = sym (sym (known log e h) ∙ (λ i. isOther (k i) || (isByte (k i) && s i)))
     by-side false s = refl
 
 module _ (t : Talk) (gap : Micros) (b : Event) where
@@ -203,6 +209,28 @@ module _ (t : Talk) (gap : Micros) (b : Event) (sided : isNobody (b .side) ≡ f
       let x = reason-by stray _ refl (λ z. omega arith) (head-elsewhere kb1 (b .value) .1) in
       let y = turn-stray-by t gap b (b .side) refl sided in
       (λ e. y .0 (x .0 e), λ e. x .1 (y .1 e))
+
+-- neither early nor stray, and with a right head, it gets no reason
+turn-else : (reply : Reply) (w : Windows) (side : Side) (gap : Micros) → (turnReason reply w side gap ≡ early → ⊥) → (turnReason reply w side gap ≡ stray → ⊥)
+    → turnReason reply w side gap ≡ noReason
+unfolding turnReason testerTurn unitTurn
+turn-else reply w side gap f g = by-tests (isTester side) (isFirst reply || isEarlier gap (w .p3min)) (isStray reply w gap) (isHasty w gap) f g
+  where
+    by-tests : (a b c d : Bool) → ((if a then if b then early else noReason else if c then stray else if d then early else noReason) ≡ early → ⊥)
+        → ((if a then if b then early else noReason else if c then stray else if d then early else noReason) ≡ stray → ⊥)
+        → (if a then if b then early else noReason else if c then stray else if d then early else noReason) ≡ noReason
+    by-tests true true c d f g = absurd (f refl)
+    by-tests true false c d f g = refl
+    by-tests false b true d f g = absurd (g refl)
+    by-tests false b false true f g = absurd (f refl)
+    by-tests false b false false f g = refl
+
+pub first-none : (t : Talk) (gap : Micros) (b : Event) → isNobody (b .side) ≡ false → (kb1 : ℕ) → (Early t gap b → ⊥) → (Stray t gap b → ⊥) → headReason kb1 (b .value) ≡ noReason
+    → firstReason kb1 (t .reply) (inForce t) (b .side) (b .value) gap ≡ noReason
+unfolding firstReason
+first-none t gap b sided kb1 f g h =
+    let z = turn-else (t .reply) (inForce t) (b .side) gap (λ q. f (turn-early-by t gap b (b .side) refl sided .0 q)) (λ q. g (turn-stray-by t gap b (b .side) refl sided .0 q)) in
+    rw (eq-eqb (turnReason (t .reply) (inForce t) (b .side) gap) noReason z) h
 
 -- where a first byte gets no reason, its head gets none
 pub first-head : (kb1 : ℕ) (reply : Reply) (w : Windows) (side : Side) (f : ℕ) (gap : Micros) → firstReason kb1 reply w side f gap ≡ noReason → headReason kb1 f ≡ noReason

@@ -5,4 +5,5 @@ pub mod Histories
 pub mod Starts
 pub mod Connecting
 pub mod Sessions
+pub mod Messages
 pub mod Accounts

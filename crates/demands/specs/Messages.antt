@@ -1,0 +1,59 @@
+-- Messages of a session, told by the history: from their first byte on, until `read` takes their bytes as a frame (document 01, "Connected."). What
+-- `read` refuses of them, however they go on, is no condition here: "mode 01 (5), form not announced .. (6), a length place KB1 doesn't announce (8)",
+-- "length byte 0 (8), wrong checksum (9)".
+-- Assumes nothing.
+use Prim.Native.Nat.{ℕ, _+_, _≤_}
+use mathlib.Core.List.{List, [], _∷_, _++_}
+use mathlib.Core.Path.{_≡_}
+use Rattle.base.specs.Numbers.{taken}
+use Rattle.base.specs.Reports.{frameReport}
+use Rattle.frame.specs.Read.{readOf}
+use Rattle.events.specs.declared.Kind.the-variants.{Byte, Tick}
+use Rattle.events.specs.declared.Event.{Event}
+use Rattle.reports.specs.declared.Report.{Report}
+use Rattle.demands.specs.Logs.{Log, _▷_, markOf, heardIn, numberAfter, takenOf}
+use Rattle.demands.specs.Refusals.{Not}
+use Rattle.demands.specs.Histories.{Step, reportsOf, Among}
+use Rattle.demands.specs.Accounts.{namedBy, allNamed}
+use Rattle.demands.specs.Sessions.{Talk, Session, gapBefore, Early, Stray}
+
+-- "First byte of a message": a byte of the session t. The bytes that reports name, up to and with those of its own event, are all that were heard
+-- before it. It is neither early nor stray.
+pub record OpensMessage (step : Step) (t : Talk) (before : Log) (b : Event) : Type 0 where
+  pub session : Session step (before ▷ b) t
+  pub kind : b .kind ≡ Byte
+  pub number : numberAfter (takenOf before) b ≡ taken
+  pub alone : allNamed (heardIn (before ▷ b)) (reportsOf step (before ▷ b)) ≡ heardIn before
+  pub timely : Not (Early t (gapBefore (takenOf before) b) b)
+  pub expected : Not (Stray t (gapBefore (takenOf before) b) b)
+
+-- "20 ms passed since the mark" is not so at the event's start; "'Passed' is strict"
+abbrev pub InTime : Log → Event → Type 0
+InTime log e = e .start .0 ≤ markOf log .0 + 20_000
+
+-- A MESSAGE: the log ends in its first byte b, and then in refused events, ticks in time, and bytes in time from the same side ("other side (7)"). A
+-- byte goes on with it as long as `read` does not take the bytes before it: "A right checksum is report 1."
+pub data Speaks (step : Step) (t : Talk) (b : Event) : Log → List ℕ → Type 0 where
+  begins : {before : Log} → OpensMessage step t before b → Speaks step t b (before ▷ b) (b .value ∷ [])
+  refused : {log : Log} {bytes : List ℕ} {e : Event} → Speaks step t b log bytes → Not (numberAfter (takenOf log) e ≡ taken) → Speaks step t b (log ▷ e) bytes
+  waits : {log : Log} {bytes : List ℕ} {e : Event} → Speaks step t b log bytes → numberAfter (takenOf log) e ≡ taken → e .kind ≡ Tick
+      → InTime (takenOf log) e → Speaks step t b (log ▷ e) bytes
+  grows : {log : Log} {bytes : List ℕ} {e : Event} → Speaks step t b log bytes → Not (readOf (t .kb1) (t .kb2) bytes .no ≡ taken)
+      → numberAfter (takenOf log) e ≡ taken → e .kind ≡ Byte → e .side ≡ b .side → InTime (takenOf log) e
+      → Speaks step t b (log ▷ e) (bytes ++ (e .value ∷ []))
+
+-- THE EVENT e ENDS A MESSAGE IN A FRAME: a byte that is taken, and with it `read` takes the message's bytes under the session's key bytes
+pub record EndsInFrame (step : Step) (es : Log) (e : Event) (bytes : List ℕ) : Type 0 where
+  pub talk : Talk
+  pub first : Event
+  pub message : Speaks step talk first (es ▷ e) bytes
+  pub kind : e .kind ≡ Byte
+  pub number : numberAfter (takenOf es) e ≡ taken
+  pub read : readOf (talk .kb1) (talk .kb2) bytes .no ≡ taken
+
+-- among these reports is a report 1 that names these of the bytes heard
+pub record ReportsFrame (heard : List ℕ) (rs : List Report) (bytes : List ℕ) : Type 0 where
+  pub report : Report
+  pub made : Among report rs
+  pub number : report .number ≡ frameReport
+  pub names : namedBy heard report ≡ bytes
