@@ -30,16 +30,18 @@ use Rattle.events.specs.declared.Side.{Side}
 use Rattle.talk.proofs.Frames.{isMessage, message-reads}
 use Rattle.phases.specs.Phases.{isConnected}
 use Rattle.reports.specs.declared.Report.{Report}
-use Rattle.demands.specs.Logs.{Log, _▷_, InBytes, numberAfter, takenOf}
+use Rattle.demands.specs.Logs.{Log, _▷_, InBytes, numberAfter, takenOf, heardIn}
 use Rattle.demands.specs.Histories.{ourStep, after, answerTo, reportsTo, Says, Among}
 use Rattle.demands.specs.Connecting.{Connects}
 use Rattle.demands.specs.Sessions.{Talk, Session, IsIn, Reads, Turns}
+use Rattle.demands.specs.Messages.{EndsInFrame, ReportsFrame}
 use Rattle.demands.proofs.Exactly as exactly
 use Rattle.demands.proofs.Becomes as becomes
 use Rattle.demands.proofs.Names as names
 use Rattle.demands.proofs.Names.{Connected}
 use Rattle.demands.proofs.Session as session
 use Rattle.demands.proofs.Session.{SomeSession}
+use Rattle.demands.proofs.Speaking as speaking
 use Rattle.demands.proofs.Stopping.{Stopped, AnswersStop}
 use Rattle.demands.proofs.Turning as turning
 
@@ -116,6 +118,12 @@ session-link = session.session-link
 -- Each report 1 is made in a session and names bytes that `read` takes as a frame under the session's key bytes.
 pub frames-read : (es : Log) (e : Event) (r : Report) → InBytes (es ▷ e) → Among r (reportsTo ourStep es e) → r .number ≡ frameReport → Reads ourStep es e r
 frames-read = turning.frames-read
+
+-- And the other way round: a report 1 names these bytes exactly if the event is the byte that ends a message of the session in them. A message goes from
+-- a first byte that is neither early nor stray over bytes of the same side, no more than 20 ms apart, until `read` takes what was heard of it.
+pub frames-exactly : (es : Log) (e : Event) (bytes : List ℕ) → InBytes (es ▷ e)
+    → ReportsFrame (heardIn (es ▷ e)) (reportsTo ourStep es e) bytes ↔ EndsInFrame ourStep es e bytes
+frames-exactly = speaking.frames-exactly
 
 -- ---- d. DAMAGE, STRAY AND EARLY
 -- A report 1 or 2 names bytes from the first byte of a message on, and it is a damage with reason 3, or 4, exactly if that byte was early, or stray, by
