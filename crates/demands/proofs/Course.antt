@@ -99,23 +99,29 @@ AtLink es t = At es t (after ourStep es .link .phase) (after ourStep es .link .n
 abbrev Answered : Log → Event → Talk → Answer → Type 0
 Answered es e t a = Ends es e (listed (a .reports)) t (listed (a .reports)) (runAt (a .link))
 
-same-run : (es : Log) (e : Event) (all : List Report) (t : Talk) (rs : List Report) (r : Run) (l : Link) → r .phase ≡ l .phase → r .named ≡ l .named → r .heard ≡ l .heard
+same-run : (es : Log) (e : Event) (all : List Report) (t : Talk) (rs : List Report) (r : Run) (l : Link) → r .phase ≡ l .phase → r .named ≡ l .named
+    → r .heard ≡ l .heard
     → Ends es e all t rs r → Ends es e all t rs (runAt l)
 same-run es e all t rs r l p n h (still-up k f a) = still-up k f (λ s m. subst₃ (At (es ▷ e) (talked es e all t rs)) p n h (a s (m ∙ sym n)))
 same-run es e all t rs r l p n h (over k f c) = over k f (sym (ap (λ (q : Phase). isConnected (q .state)) p) ∙ c)
 
-taken-ends : (es : Log) (e : Event) (t : Talk) → InBytes (es ▷ e) → numberAfter (takenOf es) e ≡ taken → AtLink es t → Answered es e t (takenBy (after ourStep es .link) e)
+taken-ends : (es : Log) (e : Event) (t : Talk) → InBytes (es ▷ e) → numberAfter (takenOf es) e ≡ taken → AtLink es t
+    → Answered es e t (takenBy (after ourStep es .link) e)
 unfolding takenBy linkAfter
 taken-ends es e t b n a =
     let l = after ourStep es .link in
-    let x = same-run es e (handledTells l e) t (handledTells l e) (handled l e) (linkAfter l e (handled l e)) refl refl refl (handled-ends es e t b n a) in
+    let x = same-run es e (handledTells l e) t (handledTells l e) (handled l e) (linkAfter l e (handled l e)) refl refl refl
+    (handled-ends es e t b n a) in
     subst (λ (rs : List Report). Ends es e rs t rs (runAt (linkAfter l e (handled l e)))) (sym (three-enough l e)) x
 
-refused-ends : (es : Log) (e : Event) (t : Talk) (k : ℕ) → eqb (numberAfter (takenOf es) e) taken ≡ false → AtLink es t → Answered es e t (refusedBy (after ourStep es .link) k)
+refused-ends : (es : Log) (e : Event) (t : Talk) (k : ℕ) → eqb (numberAfter (takenOf es) e) taken ≡ false → AtLink es t
+    → Answered es e t (refusedBy (after ourStep es .link) k)
 unfolding refusedBy listed isAmong talkAfter
 refused-ends es e t k n a =
     let l = after ourStep es .link in
-    still-up refl (each-none (Told es e [] t)) (λ _ _. at-more es e t (l .phase) (l .named) (refused-more es e n) (l .heard) (λ _ b bytes s. refused s (eqb-false (numberAfter (takenOf es) e) taken n)) a)
+    still-up refl (each-none (Told es e [] t))
+    (λ _ _. at-more es e t (l .phase) (l .named) (refused-more es e n) (l .heard)
+    (λ _ b bytes s. refused s (eqb-false (numberAfter (takenOf es) e) taken n)) a)
 
 -- WHAT AN EVENT LEAVES OF A SESSION, and what its reports are
 pub event-ends : (es : Log) (e : Event) (t : Talk) → InBytes (es ▷ e) → AtLink es t
@@ -152,7 +158,9 @@ opens-at es e n c =
     }
 
 goes-on : (es : Log) (e : Event) (t : Talk) (r : Run) (all : List Report) → Ends es e all t (reportsTo ourStep es e) r
-    → after ourStep (es ▷ e) .link .named ≡ r .named → (Says downReport (reportsTo ourStep es e) → ⊥) → Session ourStep (es ▷ e) (talked es e all t (reportsTo ourStep es e)) → At (es ▷ e) (talked es e all t (reportsTo ourStep es e)) (r .phase) (r .named) (r .heard)
+    → after ourStep (es ▷ e) .link .named ≡ r .named → (Says downReport (reportsTo ourStep es e) → ⊥)
+    → Session ourStep (es ▷ e) (talked es e all t (reportsTo ourStep es e))
+    → At (es ▷ e) (talked es e all t (reportsTo ourStep es e)) (r .phase) (r .named) (r .heard)
 goes-on es e t r all (still-up k f a) m n s = a s m
 goes-on es e t r all (over k f c) m n s = absurd (n k)
 

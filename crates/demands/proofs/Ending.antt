@@ -27,7 +27,8 @@ use Rattle.demands.specs.Sessions.{Talk, talkAfter, Session}
 use Rattle.demands.proofs.Holding.{Idle, closing-idle}
 use Rattle.demands.proofs.Tiling.{moved-phase}
 use Rattle.demands.proofs.Saying.{Each, each-none, each-one, each-both}
-use Rattle.demands.proofs.Going.{At, SpeaksOn, at-more, never-starting, withReply, Told, talked, plain, Passes, up, gone, rests, damage-ends, goes-down, down-rests, says-first, says-second, says-none, talked-both, next}
+use Rattle.demands.proofs.Going.{At, SpeaksOn, at-more, never-starting, withReply, Told, talked, plain, Passes, up, gone, rests}
+use Rattle.demands.proofs.Going.{damage-ends, goes-down, down-rests, says-first, says-second, says-none, talked-both, next}
 
 -- ---- no link is connected behind A, W or D
 only-down : (st : State) → isOpen st ≡ false → isStarting st ≡ false → isQuiet st ≡ false → isConnected st ≡ false
@@ -79,15 +80,18 @@ module _ (es : Log) (e : Event) (all : List Report) where
   unfolding down isConnected
   down-unconnected p q = ap (λ (x : Phase). isConnected (x .state)) q
 
-  pub tick-ends : (t : Talk) (rs : List Report) (r : Run) → heardIn (es ▷ e) ≡ heardIn es → (isOpen (r .phase .state) ≡ true → (u : Talk) → SpeaksOn es e u)
+  pub tick-ends : (t : Talk) (rs : List Report) (r : Run) → heardIn (es ▷ e) ≡ heardIn es
+      → (isOpen (r .phase .state) ≡ true → (u : Talk) → SpeaksOn es e u)
       → Passes es e all t rs r → Ends t (rs ++ []) r
   unfolding isAmong talkAfter
   tick-ends t rs r q f p =
-      behind t rs [] r r p (λ u a. still-up refl (each-none (Told es e all u)) (λ _ _. at-more es e u (r .phase) (r .named) q (r .heard) (λ o. f o u) a))
+      behind t rs [] r r p (λ u a. still-up refl (each-none (Told es e all u))
+      (λ _ _. at-more es e u (r .phase) (r .named) q (r .heard) (λ o. f o u) a))
       (λ d. (each-none (Told es e all t), down-unconnected (r .phase) d))
 
   -- ---- A, W AND D
-  closing-step : (t : Talk) (r : Run) → At es t (r .phase) (r .named) (r .heard) → Passes es e all t (tells r (closing (r .phase))) (moved r (closing (r .phase)))
+  closing-step : (t : Talk) (r : Run) → At es t (r .phase) (r .named) (r .heard)
+      → Passes es e all t (tells r (closing (r .phase))) (moved r (closing (r .phase)))
   unfolding closing
   closing-step t r a =
       by-test (λ (m : Move). Passes es e all t (tells r m) (moved r m)) (isOpen (r .phase .state))
@@ -99,7 +103,8 @@ module _ (es : Log) (e : Event) (all : List Report) where
       → Passes es e all t (tells r (leaving (r .phase) reason)) (moved r (leaving (r .phase) reason))
   unfolding leaving
   leaving-step t r reason h a =
-      by-test (λ (m : Move). Passes es e all t (tells r m) (moved r m)) (isQuiet (r .phase .state)) (λ _. goes-down es e all t r reason h) (λ _. rests es e all t r a)
+      by-test (λ (m : Move). Passes es e all t (tells r m) (moved r m)) (isQuiet (r .phase .state)) (λ _. goes-down es e all t r reason h)
+      (λ _. rests es e all t r a)
 
   closing-down : closing down ≡ still down
   unfolding closing down isOpen isStarting
@@ -114,13 +119,15 @@ module _ (es : Log) (e : Event) (all : List Report) where
   unfolding shutTells shut
   shut-step t r reason h a =
       let r1 = moved r (closing (r .phase)) in
-      next es e all t _ r1 _ (closing-step t r a) (λ u b. leaving-step u r1 reason h b) (down-rests es e all r1 (λ (p : Phase). leaving p reason) (leaving-down reason))
+      next es e all t _ r1 _ (closing-step t r a) (λ u b. leaving-step u r1 reason h b)
+      (down-rests es e all r1 (λ (p : Phase). leaving p reason) (leaving-down reason))
 
   shut-over : (t : Talk) (r : Run) (reason : ℕ) → (reason ≡ stopped → ⊥) → At es t (r .phase) (r .named) (r .heard)
       → (isAmong downReport (shutTells r reason) ≡ true) × Each (Told es e all t) (shutTells r reason)
   shut-over t r reason h a = by-way (shut-step t r reason h a)
     where
-      by-way : Passes es e all t (shutTells r reason) (shut r reason) → (isAmong downReport (shutTells r reason) ≡ true) × Each (Told es e all t) (shutTells r reason)
+      by-way : Passes es e all t (shutTells r reason) (shut r reason)
+          → (isAmong downReport (shutTells r reason) ≡ true) × Each (Told es e all t) (shutTells r reason)
       by-way (up reply n f q b) = absurd (false≢true (sym (shut-leaves r reason) ∙ b .fits .connected))
       by-way (gone n f q) = (n, f)
 
@@ -161,11 +168,19 @@ module _ (es : Log) (e : Event) (all : List Report) where
 
   starts-not : (u : Talk) (s : Run) → Starts u s (makes notIdleReport noReason down)
   unfolding tells moved told reportOf down isConnected
-  starts-not u s = record { each = each-one (Told es e all u) _ (plain es e all u _ (λ n. omega arith) (λ n. omega arith) (λ n. absurd (omega arith))); off = refl }
+  starts-not u s = record {
+    each = each-one (Told es e all u) _
+        (plain es e all u _ (λ n. omega arith) (λ n. omega arith) (λ n. absurd (omega arith)));
+    off = refl;
+  }
 
   starts-fail : (u : Talk) (s : Run) → Starts u s (makes failedReport wrongLow down)
   unfolding tells moved told reportOf down isConnected
-  starts-fail u s = record { each = each-one (Told es e all u) _ (plain es e all u _ (λ n. omega arith) (λ n. omega arith) (λ n. absurd (omega arith))); off = refl }
+  starts-fail u s = record {
+    each = each-one (Told es e all u) _
+        (plain es e all u _ (λ n. omega arith) (λ n. omega arith) (λ n. absurd (omega arith)));
+    off = refl;
+  }
 
   starts-slow : (u : Talk) (s : Run) (address : ℕ) (mark start : Micros) → Starts u s (startingSlow address mark start)
   unfolding startingSlow starting isConnected
@@ -179,9 +194,11 @@ module _ (es : Log) (e : Event) (all : List Report) where
       (λ _. by-test (Starts u s) (isGoodLow fall rise) (λ _. starts-still u s (starting fall fastStart) refl) (λ _. starts-fail u s))
 
   pub slow-ends : (t : Talk) (rs : List Report) (r : Run) (address : ℕ) (mark start : Micros) → Passes es e all t rs r
-      → Ends t (rs ++ (shutTells r restarted ++ tells (shut r restarted) (startingSlow address mark start))) (moved (shut r restarted) (startingSlow address mark start))
+      → Ends t (rs ++ (shutTells r restarted ++ tells (shut r restarted) (startingSlow address mark start)))
+      (moved (shut r restarted) (startingSlow address mark start))
   slow-ends t rs r address mark start p = start-ends t rs r _ (λ u. starts-slow u (shut r restarted) address mark start) p
 
   pub fast-ends : (t : Talk) (rs : List Report) (r : Run) (mark fall rise : Micros) → Passes es e all t rs r
-      → Ends t (rs ++ (shutTells r restarted ++ tells (shut r restarted) (startingFast mark fall rise))) (moved (shut r restarted) (startingFast mark fall rise))
+      → Ends t (rs ++ (shutTells r restarted ++ tells (shut r restarted) (startingFast mark fall rise)))
+      (moved (shut r restarted) (startingFast mark fall rise))
   fast-ends t rs r mark fall rise p = start-ends t rs r _ (λ u. starts-fast u (shut r restarted) mark fall rise) p

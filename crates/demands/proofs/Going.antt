@@ -78,7 +78,8 @@ pub record Opened (es : Log) (t : Talk) (p : Phase) (named : ℕ) : Type 0 where
   pub session : Session ourStep (before ▷ byte) t
   pub hasty : (lossReason p noReason ≡ early) ↔ Early t (gapBefore (takenOf before) byte) byte
   pub astray : (lossReason p noReason ≡ stray) ↔ Stray t (gapBefore (takenOf before) byte) byte
-  pub fresh : length (heardIn es) ≡ named + 1 → firstReason (t .kb1) (t .reply) (inForce t) (byte .side) (byte .value) (gapBefore (takenOf before) byte) ≡ noReason
+  pub fresh : length (heardIn es) ≡ named + 1
+      → firstReason (t .kb1) (t .reply) (inForce t) (byte .side) (byte .value) (gapBefore (takenOf before) byte) ≡ noReason
       → isHeld (p .state) ≡ true
   pub held : isHeld (p .state) ≡ true → Holds es t byte p named
 
@@ -152,7 +153,8 @@ pub record Tells (es : Log) (e : Event) (kb1 kb2 : ℕ) (fs : Frames) (all : Lis
   pub spoken : x .number ≡ frameReport → EndsInFrame ourStep es e (namedBy (heardIn (es ▷ e)) x)
   pub turns : (x .number ≡ frameReport) ⊎ (x .number ≡ damageReport) → Turns ourStep (es ▷ e) x
   pub answers : x .number ≡ downReport → x .reason ≡ stopped → Answers kb1 kb2 fs (e .side) (heardIn (es ▷ e)) all
-  pub stops : x .number ≡ frameReport → e .side ≡ Unit → stops (pendingIn kb1 kb2 fs) (dataOf kb1 kb2 (namedBy (heardIn (es ▷ e)) x)) ≡ true → Stopped all
+  pub stops : x .number ≡ frameReport → e .side ≡ Unit → stops (pendingIn kb1 kb2 fs) (dataOf kb1 kb2 (namedBy (heardIn (es ▷ e)) x)) ≡ true
+      → Stopped all
 
 -- a talk with this reply
 abbrev pub withReply : Talk → Reply → Talk
@@ -167,7 +169,8 @@ module _ (es : Log) (e : Event) (all : List Report) where
   talked t rs = talkAfter t (e .side) (heardIn (es ▷ e)) rs
 
   -- of most reports nothing is to be shown
-  pub plain : (t : Talk) (x : Report) → (x .number ≡ frameReport → ⊥) → (x .number ≡ damageReport → ⊥) → (x .number ≡ downReport → x .reason ≡ stopped → ⊥) → Told t x
+  pub plain : (t : Talk) (x : Report) → (x .number ≡ frameReport → ⊥) → (x .number ≡ damageReport → ⊥)
+      → (x .number ≡ downReport → x .reason ≡ stopped → ⊥) → Told t x
   plain t x f d s = record {
     reads = λ n. absurd (f n);
     spoken = λ n. absurd (f n);
@@ -188,7 +191,8 @@ module _ (es : Log) (e : Event) (all : List Report) where
   rests t r a = up (t .reply) refl (each-none (Told t)) refl a
 
   -- nothing is open, and no reply is expected
-  settled-at : (t : Talk) (p : Phase) (named named′ heard : ℕ) → At es t p named heard → named′ ≡ heard → At es (withReply t Never) (settled p) named′ heard
+  settled-at : (t : Talk) (p : Phase) (named named′ heard : ℕ) → At es t p named heard → named′ ≡ heard
+      → At es (withReply t Never) (settled p) named′ heard
   unfolding settled talking isConnected isOpen
   settled-at t p named named′ heard a q =
       let f = a .fits in
@@ -236,16 +240,20 @@ module _ (es : Log) (e : Event) (all : List Report) where
       record {
         reads = λ n. absurd (omega arith);
         spoken = λ n. absurd (omega arith);
-        turns = λ _. turned t (r .phase) (r .named) (reportOf r damageReport (lossReason (r .phase) why)) o refl (λ q. f .0 (q .1), λ q. (refl, f .1 q)) (λ q. g .0 (q .1), λ q. (refl, g .1 q));
+        turns = λ _. turned t (r .phase) (r .named) (reportOf r damageReport (lossReason (r .phase) why)) o refl
+            (λ q. f .0 (q .1), λ q. (refl, f .1 q)) (λ q. g .0 (q .1), λ q. (refl, g .1 q));
         answers = λ n. absurd (omega arith);
         stops = λ n. absurd (omega arith);
       }
 
-  pub damage-ends : (t : Talk) (r : Run) (why : ℕ) → (why ≡ early → ⊥) → (why ≡ stray → ⊥) → At es t (r .phase) (r .named) (r .heard) → isOpen (r .phase .state) ≡ true
-      → Passes t (tells r (makes damageReport (lossReason (r .phase) why) (settled (r .phase)))) (moved r (makes damageReport (lossReason (r .phase) why) (settled (r .phase))))
+  pub damage-ends : (t : Talk) (r : Run) (why : ℕ) → (why ≡ early → ⊥) → (why ≡ stray → ⊥) → At es t (r .phase) (r .named) (r .heard)
+      → isOpen (r .phase .state) ≡ true
+      → Passes t (tells r (makes damageReport (lossReason (r .phase) why) (settled (r .phase))))
+      (moved r (makes damageReport (lossReason (r .phase) why) (settled (r .phase))))
   unfolding tells moved told reportOf namesBytes isAmong talkAfter afterReport
   damage-ends t r why h k a o =
-      up Never refl (each-one (Told t) _ (damage-told t r why h k (a .opened o))) refl (settled-at t (r .phase) (r .named) (r .heard) (r .heard) a refl)
+      up Never refl (each-one (Told t) _ (damage-told t r why h k (a .opened o))) refl
+      (settled-at t (r .phase) (r .named) (r .heard) (r .heard) a refl)
 
   -- ---- time passes
   silence-step : (t : Talk) (r : Run) (gap : Micros) → At es t (r .phase) (r .named) (r .heard)
@@ -253,7 +261,8 @@ module _ (es : Log) (e : Event) (all : List Report) where
   unfolding afterSilence
   silence-step t r gap a =
       by-test (λ (m : Move). Passes t (tells r m) (moved r m)) (isOpen (r .phase .state) && isSilent gap)
-      (λ c. damage-ends t r brokenOff (λ z. omega arith) (λ z. omega arith) a (and-split (isOpen (r .phase .state)) (isSilent gap) c .0)) (λ _. rests t r a)
+      (λ c. damage-ends t r brokenOff (λ z. omega arith) (λ z. omega arith) a (and-split (isOpen (r .phase .state)) (isSilent gap) c .0))
+      (λ _. rests t r a)
 
   no-reply : (t : Talk) (r : Run) → At es t (r .phase) (r .named) (r .heard) → isQuiet (r .phase .state) ≡ true
       → Passes t (tells r (makes noReplyReport noReason (settled (r .phase)))) (moved r (makes noReplyReport noReason (settled (r .phase))))
@@ -266,10 +275,12 @@ module _ (es : Log) (e : Event) (all : List Report) where
       → Passes t (tells r (afterP2 (r .phase) gap)) (moved r (afterP2 (r .phase) gap))
   unfolding afterP2
   p2-step t r gap a =
-      by-test (λ (m : Move). Passes t (tells r m) (moved r m)) (isQuiet (r .phase .state) && isFirst (r .phase .reply) && isPassed (r .phase .windows .p2max) gap)
+      by-test (λ (m : Move). Passes t (tells r m) (moved r m))
+      (isQuiet (r .phase .state) && isFirst (r .phase .reply) && isPassed (r .phase .windows .p2max) gap)
       (λ c. no-reply t r a (and-split (isQuiet (r .phase .state)) (isFirst (r .phase .reply)) (and-split _ _ c .0) .0)) (λ _. rests t r a)
 
-  pub goes-down : (t : Talk) (r : Run) (reason : ℕ) → (reason ≡ stopped → ⊥) → Passes t (tells r (makes downReport reason down)) (moved r (makes downReport reason down))
+  pub goes-down : (t : Talk) (r : Run) (reason : ℕ) → (reason ≡ stopped → ⊥)
+      → Passes t (tells r (makes downReport reason down)) (moved r (makes downReport reason down))
   unfolding tells moved told reportOf isAmong
   goes-down t r reason h = gone refl (each-one (Told t) _ (plain t _ (λ n. omega arith) (λ n. omega arith) (λ n. h))) refl
 
@@ -277,14 +288,16 @@ module _ (es : Log) (e : Event) (all : List Report) where
       → Passes t (tells r (afterP3 (r .phase) gap)) (moved r (afterP3 (r .phase) gap))
   unfolding afterP3
   p3-step t r gap a =
-      by-test (λ (m : Move). Passes t (tells r m) (moved r m)) (isQuiet (r .phase .state) && not (isFirst (r .phase .reply)) && isPassed (r .phase .windows .p3max) gap)
+      by-test (λ (m : Move). Passes t (tells r m) (moved r m))
+      (isQuiet (r .phase .state) && not (isFirst (r .phase .reply)) && isPassed (r .phase .windows .p3max) gap)
       (λ _. goes-down t r idleOver (λ z. omega arith)) (λ _. rests t r a)
 
   window-step : (t : Talk) (r : Run) (mark time : Micros) → At es t (r .phase) (r .named) (r .heard)
       → Passes t (tells r (afterWindow (r .phase) mark time)) (moved r (afterWindow (r .phase) mark time))
   unfolding afterWindow
   window-step t r mark time a =
-      by-test (λ (m : Move). Passes t (tells r m) (moved r m)) (isStarting (r .phase .state) && isOver (r .phase .start) (sinceOrigin (r .phase) mark time))
+      by-test (λ (m : Move). Passes t (tells r m) (moved r m))
+      (isStarting (r .phase .state) && isOver (r .phase .start) (sinceOrigin (r .phase) mark time))
       (λ c. absurd (never-starting (r .phase .state) (a .fits .connected) (and-split (isStarting (r .phase .state)) _ c .0))) (λ _. rests t r a)
 
   -- ---- one move behind another
@@ -319,7 +332,8 @@ module _ (es : Log) (e : Event) (all : List Report) where
   pub says-none : (rs ss : List Report) → isAmong downReport rs ≡ false → isAmong downReport ss ≡ false → isAmong downReport (rs ++ ss) ≡ false
   says-none rs ss h k = says-both downReport rs ss ∙ or-none (isAmong downReport rs) (isAmong downReport ss) h k
 
-  pub talked-both : (t : Talk) (reply : Reply) (rs ss : List Report) → talked t rs ≡ withReply t reply → talked t (rs ++ ss) ≡ talked (withReply t reply) ss
+  pub talked-both : (t : Talk) (reply : Reply) (rs ss : List Report) → talked t rs ≡ withReply t reply
+      → talked t (rs ++ ss) ≡ talked (withReply t reply) ss
   talked-both t reply rs ss q = talk-both t (e .side) (heardIn (es ▷ e)) rs ss ∙ ap (λ (u : Talk). talked u ss) q
 
   pub next : (t : Talk) (rs : List Report) (r : Run) (m : Move) → Passes t rs r
@@ -328,11 +342,13 @@ module _ (es : Log) (e : Event) (all : List Report) where
   next t rs r m (up reply n f q a) s d = on (s (withReply t reply) a)
     where
       on : Passes (withReply t reply) (tells r m) (moved r m) → Passes t (rs ++ tells r m) (moved r m)
-      on (up again k g p b) = up again (says-none rs (tells r m) n k) (each-both (Told t) rs (tells r m) f g) (talked-both t reply rs (tells r m) q ∙ p) b
+      on (up again k g p b) = up again (says-none rs (tells r m) n k) (each-both (Told t) rs (tells r m) f g)
+          (talked-both t reply rs (tells r m) q ∙ p) b
       on (gone k g p) = gone (says-second rs (tells r m) k) (each-both (Told t) rs (tells r m) f g) p
   next t rs r m (gone n f q) s d =
       let x = d q in
-      gone (says-first rs (tells r m) n) (each-both (Told t) rs (tells r m) f (subst (Each (Told t)) (sym (x .silent)) (each-none (Told t)))) (x .still-down)
+      gone (says-first rs (tells r m) n) (each-both (Told t) rs (tells r m) f (subst (Each (Told t)) (sym (x .silent)) (each-none (Told t))))
+      (x .still-down)
 
   p2-down : (gap : Micros) → afterP2 down gap ≡ still down
   unfolding afterP2 down isQuiet
@@ -347,7 +363,8 @@ module _ (es : Log) (e : Event) (all : List Report) where
   window-down mark time = refl
 
   -- TIME PASSES IN A SESSION
-  pub passed-step : (t : Talk) (r : Run) (mark start : Micros) → At es t (r .phase) (r .named) (r .heard) → Passes t (passedTells r mark start) (passed r mark start)
+  pub passed-step : (t : Talk) (r : Run) (mark start : Micros) → At es t (r .phase) (r .named) (r .heard)
+      → Passes t (passedTells r mark start) (passed r mark start)
   unfolding passedTells passed
   passed-step t r mark start a =
       let gap = gapOf mark start in

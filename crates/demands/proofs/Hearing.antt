@@ -26,7 +26,8 @@ use Rattle.events.specs.declared.Kind.the-variants.{Byte}
 use Rattle.events.specs.declared.Side.{Side}
 use Rattle.events.specs.declared.Side.the-variants.{Tester, Unit, Nobody}
 use Rattle.events.specs.declared.Event.{Event}
-use Rattle.talk.specs.Talk.{headReason, firstReason, begun, partReason, laterReason, isSum, grown, withData, requestOf, isExactly, asksCodes, ifAllowed, requestAfter, isStopped}
+use Rattle.talk.specs.Talk.{headReason, firstReason, begun, partReason, laterReason, isSum, grown, withData, requestOf, isExactly}
+use Rattle.talk.specs.Talk.{asksCodes, ifAllowed, requestAfter, isStopped}
 use Rattle.talk.specs.declared.Part.{Part}
 use Rattle.talk.specs.declared.Part.the-variants.{Target, Source, Length, Data, Sum}
 use Rattle.talk.specs.declared.Reply.the-variants.{First, Further}
@@ -48,8 +49,10 @@ use Rattle.link.proofs.Three.{tells, byteTells}
 use Rattle.demands.specs.Logs.{Log, _▷_, markOf, heardIn, numberAfter, takenOf, whole, more}
 use Rattle.demands.specs.Histories.{ourStep, after, isAmong, Among, first, later}
 use Rattle.demands.specs.Accounts.{namedBy}
-use Rattle.demands.specs.Sessions.{Frame, Frames, _▸_, stops, resets, retimes, codesIn, pendingIn, windowsIn, Talk, afterReport, talkAfter, Session, inForce, gapBefore, Stray, Early}
-use Rattle.demands.proofs.Messages.{Carries, Kept, begun as gone-none, on, gone-by, gone-ends, ends-now, kept-asked, message-carries, reply-windows, reply-request, reply-stops}
+use Rattle.demands.specs.Sessions.{Frame, Frames, _▸_, stops, resets, retimes, codesIn, pendingIn, windowsIn, Talk, afterReport}
+use Rattle.demands.specs.Sessions.{talkAfter, Session, inForce, gapBefore, Stray, Early}
+use Rattle.demands.proofs.Messages.{Carries, Kept, begun as gone-none, on, gone-by, gone-ends, ends-now, kept-asked, message-carries}
+use Rattle.demands.proofs.Messages.{reply-windows, reply-request, reply-stops}
 use Rattle.demands.specs.Messages.{InTime, Speaks, begins, grows}
 use Rattle.demands.proofs.Tiling.{sum-is}
 use Rattle.demands.proofs.Listening.{Bytes, byte-longer, begins-longer, alone-is}
@@ -115,6 +118,9 @@ pending-asked kb1 kb2 fs f c = rw c
 abbrev replyWindows : ℕ → Windows → List ℕ → List ℕ → Windows
 replyWindows kb1 w q a = if resets q a then setOf kb1 else if retimes q a then ifAllowed (decodedOf (codesIn q)) w else w
 
+abbrev pendingBy : List ℕ → List ℕ → List ℕ
+pendingBy q a = if stops q a || resets q a || retimes q a then [] else q
+
 windows-answered : (kb1 kb2 : ℕ) (fs : Frames) (f : Frame) → isTester (f .side) ≡ false
     → windowsIn kb1 kb2 (fs ▸ f) ≡ replyWindows kb1 (windowsIn kb1 kb2 fs) (pendingIn kb1 kb2 fs) (dataOf kb1 kb2 (f .bytes))
 unfolding windowsIn
@@ -122,7 +128,7 @@ windows-answered kb1 kb2 fs f c = rw c
 
 pending-answered : (kb1 kb2 : ℕ) (fs : Frames) (f : Frame) → isTester (f .side) ≡ false
     → pendingIn kb1 kb2 (fs ▸ f)
-    ≡ (if stops (pendingIn kb1 kb2 fs) (dataOf kb1 kb2 (f .bytes)) || resets (pendingIn kb1 kb2 fs) (dataOf kb1 kb2 (f .bytes)) || retimes (pendingIn kb1 kb2 fs) (dataOf kb1 kb2 (f .bytes)) then [] else pendingIn kb1 kb2 fs)
+    ≡ pendingBy (pendingIn kb1 kb2 fs) (dataOf kb1 kb2 (f .bytes))
 unfolding pendingIn
 pending-answered kb1 kb2 fs f c = rw c
 
@@ -152,10 +158,12 @@ module _ (es : Log) (e : Event) (all : List Report) (kind : e .kind ≡ Byte) (n
 
   -- a byte that makes no report
   silent-byte : (t : Talk) (r : Run) (q : Phase) → isQuiet (q .state) ≡ false
-      → (Session ourStep (es ▷ e) t → after ourStep (es ▷ e) .link .named ≡ r .named → At (es ▷ e) t q (r .named) (countSum (r .heard) 1)) → Heard t r (still q)
+      → (Session ourStep (es ▷ e) t → after ourStep (es ▷ e) .link .named ≡ r .named → At (es ▷ e) t q (r .named) (countSum (r .heard) 1))
+      → Heard t r (still q)
   unfolding tells moved afterStop isAmong talkAfter
   silent-byte t r q n f _ =
-      by-test (λ (m : Move). Ends es e all t ([] ++ tells (withPhase (hearing r) q) m) (moved (withPhase (hearing r) q) m)) (isQuiet (q .state) && isStopped (q .request))
+      by-test (λ (m : Move). Ends es e all t ([] ++ tells (withPhase (hearing r) q) m) (moved (withPhase (hearing r) q) m))
+      (isQuiet (q .state) && isStopped (q .request))
       (λ c. absurd (false≢true (sym n ∙ and-split (isQuiet (q .state)) _ c .0))) (λ _. still-up refl (each-none (Told es e all t)) f)
 
   -- ---- the first byte of a message
@@ -244,13 +252,15 @@ module _ (es : Log) (e : Event) (all : List Report) (kind : e .kind ≡ Byte) (n
     first-at : At (es ▷ e) t (firstByte p (e .side) (e .value) (gapOf mark (e .start))) named (countSum heard 1)
     unfolding firstByte
     first-at =
-        by-test (λ (q : Phase). At (es ▷ e) t q named (countSum heard 1)) (eqb reason noReason) (λ c. first-held (eqb-true reason noReason c)) (λ c. first-damaged (eqb-false reason noReason c))
+        by-test (λ (q : Phase). At (es ▷ e) t q named (countSum heard 1)) (eqb reason noReason) (λ c. first-held (eqb-true reason noReason c))
+        (λ c. first-damaged (eqb-false reason noReason c))
 
   first-opens : (p : Phase) (gap : Micros) → isQuiet (firstByte p (e .side) (e .value) gap .state) ≡ false
   unfolding firstByte holding damaged talking isQuiet
   first-opens p gap =
       let why = reasonAtFirst p (e .side) (e .value) gap in
-      by-test (λ (q : Phase). isQuiet (q .state) ≡ false) (eqb why noReason) {x = holding p (begun (e .side) (e .value))} {y = damaged p why} (λ _. refl) (λ _. refl)
+      by-test (λ (q : Phase). isQuiet (q .state) ≡ false) (eqb why noReason) {x = holding p (begun (e .side) (e .value))} {y = damaged p why}
+      (λ _. refl) (λ _. refl)
 
   first-ends : (t : Talk) (r : Run) → At es t (r .phase) (r .named) (r .heard) → isQuiet (r .phase .state) ≡ true
       → Heard t r (still (firstByte (r .phase) (e .side) (e .value) (gapOf mark (e .start))))
@@ -297,7 +307,8 @@ module _ (es : Log) (e : Event) (all : List Report) (kind : e .kind ≡ Byte) (n
   damage-ends t r a st = silent-byte t r (r .phase) (ap isQuiet st) (λ _ _. skipped-at t (r .phase) (r .named) (r .heard) a st)
 
   -- a message goes on, is damaged, or ends
-  module _ (t : Talk) (r : Run) (a : At es t (r .phase) (r .named) (r .heard)) (o : Opened es t (r .phase) (r .named)) (h : isHeld (r .phase .state) ≡ true)
+  module _ (t : Talk) (r : Run) (a : At es t (r .phase) (r .named) (r .heard)) (o : Opened es t (r .phase) (r .named))
+      (h : isHeld (r .phase .state) ≡ true)
       (near : InTime (takenOf es) e) where
     abbrev wrong : ℕ
     wrong = laterReason (r .phase .message) (e .side) (e .value)
@@ -416,7 +427,8 @@ module _ (es : Log) (e : Event) (all : List Report) (kind : e .kind ≡ Byte) (n
       carries : Carries (r .phase .message) (dataOf (t .kb1) (t .kb2) framedBytes)
       carries =
           let c = message-carries (t .kb1) (t .kb2) (o .byte .side) (held .head) (held .rest) (e .value) (a .fits .good) slice-byte message in
-          let d = subst (λ (m : Message). Carries m (dataOf (t .kb1) (t .kb2) slice)) (sym (gone-by (o .byte .side) (begun (o .byte .side) (held .head)) (r .phase .message) (held .rest) (held .gone))) c in
+          let d = subst (λ (m : Message). Carries m (dataOf (t .kb1) (t .kb2) slice))
+          (sym (gone-by (o .byte .side) (begun (o .byte .side) (held .head)) (r .phase .message) (held .rest) (held .gone))) c in
           subst (λ (l : List ℕ). Carries (r .phase .message) (dataOf (t .kb1) (t .kb2) l)) (sym names) d
 
       -- the talk with this frame
@@ -458,7 +470,8 @@ module _ (es : Log) (e : Event) (all : List Report) (kind : e .kind ≡ Byte) (n
             kb1 = f .kb1;
             kb2 = f .kb2;
             windows = reply-windows (p .request) (p .asked) (p .start .kb1) latest d (p .message) (p .windows) (f .kept) carries
-                ∙ ap₂ (λ (k : ℕ) (v : Windows). replyWindows k v latest d) (f .kb1) (f .windows) ∙ sym (windows-answered (t .kb1) (t .kb2) (t .frames) fr c);
+                ∙ ap₂ (λ (k : ℕ) (v : Windows). replyWindows k v latest d) (f .kb1) (f .windows)
+                ∙ sym (windows-answered (t .kb1) (t .kb2) (t .frames) fr c);
             reply = rw c refl;
             kept = subst (Kept (requestAfter (p .request) (p .message)) (p .asked)) (sym (pending-answered (t .kb1) (t .kb2) (t .frames) fr c))
                 (reply-request (p .request) (p .asked) latest d (p .message) (f .kept) carries z);
@@ -471,7 +484,8 @@ module _ (es : Log) (e : Event) (all : List Report) (kind : e .kind ≡ Byte) (n
       frame-told : (e .side ≡ Unit → Stops → Stopped all) → Told es e all t x
       unfolding reportOf namesBytes
       frame-told f =
-          let never : (k : ℕ) → (noReason ≡ k → ⊥) → lossReason (r .phase) noReason ≡ k → ⊥ = λ k n q. n (sym (held-loss (r .phase) noReason h) ∙ q) in
+          let never : (k : ℕ) → (noReason ≡ k → ⊥) → lossReason (r .phase) noReason ≡ k → ⊥
+          = λ k n q. n (sym (held-loss (r .phase) noReason h) ∙ q) in
           record {
             reads = λ _. reads;
             spoken = λ _. record {
@@ -519,12 +533,15 @@ module _ (es : Log) (e : Event) (all : List Report) (kind : e .kind ≡ Byte) (n
           → Ends es e all t (tells (hearing r) (makes frameReport noReason q) ++ tells (behindFrame q) (still q)) (moved (behindFrame q) (still q))
       unfolding tells moved told reportOf namesBytes isAmong talkAfter afterReport
       frame-on q st f n =
-          still-up refl (each-both (Told es e all t) (x ∷ []) [] (each-one (Told es e all t) x (frame-told (λ u z. absurd (n u z)))) (each-none (Told es e all t)))
+          still-up refl (each-both (Told es e all t) (x ∷ []) [] (each-one (Told es e all t) x (frame-told (λ u z. absurd (n u z))))
+          (each-none (Told es e all t)))
           (λ _ _. frame-at q st f)
 
       frame-over : (q : Phase) → e .side ≡ Unit → Stops
-          → Each (λ (z : Report). Among z all) (tells (hearing r) (makes frameReport noReason q) ++ tells (behindFrame q) (makes downReport stopped down))
-          → Ends es e all t (tells (hearing r) (makes frameReport noReason q) ++ tells (behindFrame q) (makes downReport stopped down)) (moved (behindFrame q) (makes downReport stopped down))
+          → Each (λ (z : Report). Among z all)
+          (tells (hearing r) (makes frameReport noReason q) ++ tells (behindFrame q) (makes downReport stopped down))
+          → Ends es e all t (tells (hearing r) (makes frameReport noReason q) ++ tells (behindFrame q) (makes downReport stopped down))
+          (moved (behindFrame q) (makes downReport stopped down))
       unfolding tells moved told reportOf isAmong down isConnected
       frame-over q u z i =
           over refl
@@ -590,11 +607,14 @@ module _ (es : Log) (e : Event) (all : List Report) (kind : e .kind ≡ Byte) (n
         (λ _. silent-byte t r (damaged (r .phase) wrong) (damaged-open wrong) (λ _ _. later-damaged))
         (λ c.
         let z = eqb-true wrong noReason (not-false (eqb wrong noReason) c) in
-        by-test (λ (x : Move). Heard t r x) (isSum (m .part)) {x = makes frameReport noReason (framed (r .phase))} {y = still (holding (r .phase) (grown m (e .value)))}
-        (λ s. frame-ends z s) (λ s. silent-byte t r (holding (r .phase) (grown m (e .value))) (holding-open (grown m (e .value))) (λ _ _. later-held z s)))
+        by-test (λ (x : Move). Heard t r x) (isSum (m .part)) {x = makes frameReport noReason (framed (r .phase))}
+        {y = still (holding (r .phase) (grown m (e .value)))}
+        (λ s. frame-ends z s) (λ s. silent-byte t r (holding (r .phase) (grown m (e .value))) (holding-open (grown m (e .value)))
+        (λ _ _. later-held z s)))
 
   -- ---- ANY BYTE OF A SESSION
-  byte-in : (st : State) (t : Talk) (r : Run) → (isOpen (r .phase .state) ≡ true → InTime (takenOf es) e) → r .phase .state ≡ st → At es t (r .phase) (r .named) (r .heard)
+  byte-in : (st : State) (t : Talk) (r : Run) → (isOpen (r .phase .state) ≡ true → InTime (takenOf es) e) → r .phase .state ≡ st
+      → At es t (r .phase) (r .named) (r .heard)
       → Heard t r (byteIn st (r .phase) (e .side) (e .value) mark (e .start))
   unfolding isConnected isQuiet isHeld isOpen
   byte-in Down t r f st a = absurd (false≢true (sym (ap isConnected st) ∙ a .fits .connected))
@@ -603,7 +623,8 @@ module _ (es : Log) (e : Event) (all : List Report) (kind : e .kind ≡ Byte) (n
   byte-in Held t r f st a = later-ends t r a (a .opened (ap isOpen st)) (ap isHeld st) (f (ap isOpen st))
   byte-in Damage t r f st a = damage-ends t r a st
 
-  pub byte-ends : (t : Talk) (r : Run) → (isOpen (r .phase .state) ≡ true → InTime (takenOf es) e) → At es t (r .phase) (r .named) (r .heard) → Each (λ (x : Report). Among x all) (byteTells r e mark)
+  pub byte-ends : (t : Talk) (r : Run) → (isOpen (r .phase .state) ≡ true → InTime (takenOf es) e) → At es t (r .phase) (r .named) (r .heard)
+      → Each (λ (x : Report). Among x all) (byteTells r e mark)
       → Ends es e all t (byteTells r e mark) (byteHeard r e mark)
   unfolding byteTells byteHeard afterByte
   byte-ends t r f a = byte-in (r .phase .state) t r f refl a
@@ -616,7 +637,9 @@ module _ (es : Log) (e : Event) (all : List Report) (kind : e .kind ≡ Byte) (n
   outside : (t : Talk) (r : Run) → Outside t r (makes outsideReport noReason down)
   unfolding tells moved told reportOf afterStop down isQuiet isConnected
   outside t r = record {
-    each = each-both (Told es e all t) (_ ∷ []) [] (each-one (Told es e all t) _ (plain es e all t _ (λ n. omega arith) (λ n. omega arith) (λ n. absurd (omega arith)))) (each-none (Told es e all t));
+    each = each-both (Told es e all t) (_ ∷ []) []
+        (each-one (Told es e all t) _ (plain es e all t _ (λ n. omega arith) (λ n. omega arith) (λ n. absurd (omega arith))))
+        (each-none (Told es e all t));
     off = refl;
   }
 
@@ -624,7 +647,8 @@ module _ (es : Log) (e : Event) (all : List Report) (kind : e .kind ≡ Byte) (n
   unfolding afterByte down
   byte-down = refl
 
-  pub byte-outside : (t : Talk) (r : Run) → r .phase ≡ down → Each (Told es e all t) (byteTells r e mark) × (isConnected (byteHeard r e mark .phase .state) ≡ false)
+  pub byte-outside : (t : Talk) (r : Run) → r .phase ≡ down
+      → Each (Told es e all t) (byteTells r e mark) × (isConnected (byteHeard r e mark .phase .state) ≡ false)
   unfolding byteTells byteHeard
   byte-outside t r q =
       let x = subst (Outside t r) (sym (ap (λ (p : Phase). afterByte p (e .side) (e .value) mark (e .start)) q ∙ byte-down)) (outside t r) in

@@ -46,11 +46,13 @@ heard-bytes none b = bytes-none
 heard-bytes (es ▷ e) b =
     let front = heard-bytes es (b .0) in
     by-test (λ (log : Log). Bytes (heardOf log)) (eqb (numberAfter (takenOf es) e) taken) {x = takenOf es ▷ e} {y = takenOf es}
-    (λ _. bytes-both (heardIn es) _ front (by-test Bytes (isByte (e .kind)) {x = e .value ∷ []} {y = []} (λ _. bytes-one (e .value) (b .1)) (λ _. bytes-none)))
+    (λ _. bytes-both (heardIn es) _ front (by-test Bytes (isByte (e .kind)) {x = e .value ∷ []} {y = []} (λ _. bytes-one (e .value) (b .1))
+    (λ _. bytes-none)))
     (λ _. front)
 
 -- ---- they grow with the log
-taken-more : (es : Log) (e : Event) → numberAfter (takenOf es) e ≡ taken → heardIn (es ▷ e) ≡ heardIn es ++ (if isByte (e .kind) then e .value ∷ [] else [])
+taken-more : (es : Log) (e : Event) → numberAfter (takenOf es) e ≡ taken
+    → heardIn (es ▷ e) ≡ heardIn es ++ (if isByte (e .kind) then e .value ∷ [] else [])
 unfolding takenOf heardOf
 taken-more es e n = rw (eq-eqb _ taken n)
 
@@ -73,7 +75,8 @@ unfolding takenOf heardOf
 begins-longer whole = omega arith
 begins-longer {front = front} (more {es = es} {e = e} b) =
     let x = begins-longer b in
-    by-test (λ (log : Log). length (heardIn front) ≤ length (heardOf log)) (eqb (numberAfter (takenOf es) e) taken) {x = takenOf es ▷ e} {y = takenOf es}
+    by-test (λ (log : Log). length (heardIn front) ≤ length (heardOf log)) (eqb (numberAfter (takenOf es) e) taken) {x = takenOf es ▷ e}
+    {y = takenOf es}
     (λ _. omega (arith, length-append (heardIn es) (if isByte (e .kind) then e .value ∷ [] else []))) (λ _. x)
 
 -- ---- and reports name them

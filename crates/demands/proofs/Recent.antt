@@ -1,4 +1,5 @@
--- What is still open behind passing time: 20 ms have not passed since the mark. While they have not passed, what is open stays as it is. Assumes nothing.
+-- While something is still open behind passing time, 20 ms have not passed since the mark; and while they have not, what is open stays as it is.
+-- Assumes nothing.
 use Prim.Native.Nat.{_+_, _≤_}
 use mathlib.Core.Bool.{true, false, not, _&&_, false≢true}
 use mathlib.Core.Path.{_≡_, sym, subst}
@@ -66,7 +67,8 @@ unfolding isSilent
 in-time mark start h = le-ltb 20_000 (gapOf mark start .0) (omega arith)
 
 -- what is open stays
-pub open-calm : (st : State) (p : Phase) (mark start : Micros) → isOpen st ≡ true → isSilent (gapOf mark start) ≡ false → calmIn st p mark start ≡ true
+pub open-calm : (st : State) (p : Phase) (mark start : Micros) → isOpen st ≡ true → isSilent (gapOf mark start) ≡ false
+    → calmIn st p mark start ≡ true
 unfolding isOpen
 open-calm Down p mark start o h = absurd (false≢true o)
 open-calm Starting p mark start o h = absurd (false≢true o)

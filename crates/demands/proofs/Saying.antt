@@ -49,7 +49,8 @@ pub says-both : (number : ℕ) (rs ss : List Report) → isAmong number (rs ++ s
 unfolding isAmong
 says-both number [] ss = refl
 says-both number (r ∷ rs) ss =
-    ap (λ (b : Bool). eqb (r .number) number || b) (says-both number rs ss) ∙ sym (or-assoc (eqb (r .number) number) (isAmong number rs) (isAmong number ss))
+    ap (λ (b : Bool). eqb (r .number) number || b) (says-both number rs ss)
+    ∙ sym (or-assoc (eqb (r .number) number) (isAmong number rs) (isAmong number ss))
 
 -- ---- what they make of a talk
 pub talk-both : (t : Talk) (side : Side) (heard : List ℕ) (rs ss : List Report)

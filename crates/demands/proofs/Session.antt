@@ -30,7 +30,8 @@ pub record SomeSession (es : Log) : Type 0 where
   pub session : Session ourStep es talk
 
 -- where the link stays connected, no report 7 was made
-over-off : (es : Log) (e : Event) (all rs : List Report) (t : Talk) (r : Run) → Ends es e all t rs r → isConnected (r .phase .state) ≡ true → Says downReport rs → ⊥
+over-off : (es : Log) (e : Event) (all rs : List Report) (t : Talk) (r : Run) → Ends es e all t rs r → isConnected (r .phase .state) ≡ true
+    → Says downReport rs → ⊥
 over-off es e all rs t r (still-up n f a) c s = false≢true (sym n ∙ s)
 over-off es e all rs t r (over n f d) c s = false≢true (sym d ∙ c)
 
@@ -41,7 +42,8 @@ last-event es e b true c f n =
     let x = f refl in
     record {
       talk = _;
-      session = lasts (x .session) (over-off es e _ (reportsTo ourStep es e) (x .talk) _ (event-ends es e (x .talk) b (session-at (b .0) (x .session))) n);
+      session = lasts (x .session) (over-off es e _ (reportsTo ourStep es e) (x .talk) _
+          (event-ends es e (x .talk) b (session-at (b .0) (x .session))) n);
     }
 last-event es e b false c f n =
     let x = becomes-connected-exactly es e .0 (c, n) in

@@ -52,7 +52,8 @@ use Rattle.demands.proofs.Basics.{basics, answer-taken, answer-refused}
 use Rattle.demands.proofs.Messages.{gone-ends, ends-now}
 use Rattle.demands.proofs.Tiling.{sum-is}
 use Rattle.demands.proofs.Completing.{acted-byte, acted-tick}
-use Rattle.demands.proofs.Listening.{Bytes, bytes-both, bytes-one, byte-more, byte-longer, other-more, refused-more, begins-longer, alone-named}
+use Rattle.demands.proofs.Listening.{Bytes, bytes-both, bytes-one, byte-more, byte-longer, other-more, refused-more, begins-longer}
+use Rattle.demands.proofs.Listening.{alone-named}
 use Rattle.demands.proofs.Recent.{in-time, open-stays}
 use Rattle.demands.proofs.Saying.{among-left, among-right}
 use Rattle.demands.proofs.Turns.{has-side, first-none}
@@ -92,7 +93,8 @@ refused-unmoved es e n =
       named = ap (λ (x : Answer). x .link .named) a;
     }
 
-taken-unmoved : (es : Log) (e : Event) (r : Run) → numberAfter (takenOf es) e ≡ taken → handled (after ourStep es .link) e ≡ r → r .reports ≡ noReports
+taken-unmoved : (es : Log) (e : Event) (r : Run) → numberAfter (takenOf es) e ≡ taken → handled (after ourStep es .link) e ≡ r
+    → r .reports ≡ noReports
     → r .named ≡ after ourStep es .link .named → Unmoved es e (r .phase)
 unfolding after takenBy linkAfter listed
 taken-unmoved es e r n h s m =
@@ -116,7 +118,8 @@ record Standing (log : Log) (t : Talk) (b : Event) (bytes : List ℕ) : Type 0 w
   heard : drop (after ourStep log .link .named) (heardIn log) ≡ bytes
   whose : after ourStep log .link .phase .message .side ≡ b .side
 
-stand-on : (log : Log) (e : Event) (t : Talk) (b : Event) (bytes : List ℕ) → heardIn (log ▷ e) ≡ heardIn log → Unmoved log e (after ourStep log .link .phase)
+stand-on : (log : Log) (e : Event) (t : Talk) (b : Event) (bytes : List ℕ) → heardIn (log ▷ e) ≡ heardIn log
+    → Unmoved log e (after ourStep log .link .phase)
     → Standing log t b bytes → Standing (log ▷ e) t b bytes
 stand-on log e t b bytes q u s = record {
   session = session-on log e t _ u (s .session);
@@ -145,7 +148,8 @@ held-is Damage h = absurd (false≢true h)
 ends-last : (side : Side) (m : Message) (v : ℕ) → endsIn side m (v ∷ []) ≡ true → (laterReason m side v ≡ noReason) × (isSum (m .part) ≡ true)
 ends-last side m v q = by-tests (eqb (laterReason m side v) noReason) (isSum (m .part)) refl refl q
   where
-    by-tests : (x y : Bool) → eqb (laterReason m side v) noReason ≡ x → isSum (m .part) ≡ y → (if not x then false else if y then true else false) ≡ true
+    by-tests : (x y : Bool) → eqb (laterReason m side v) noReason ≡ x → isSum (m .part) ≡ y
+        → (if not x then false else if y then true else false) ≡ true
         → (laterReason m side v ≡ noReason) × (isSum (m .part) ≡ true)
     by-tests true true x y q = (eqb-true (laterReason m side v) noReason x, y)
     by-tests true false x y q = absurd (false≢true q)
@@ -189,7 +193,8 @@ module _ (log : Log) (e : Event) (t : Talk) (b : Event) (bytes : List ℕ) (s : 
 
     right-head : eqb (headReason (t .kb1) (holds .head)) noReason ≡ true
     right-head =
-        eq-eqb (headReason (t .kb1) (holds .head)) noReason (sym (ap (λ (x : ℕ). headReason x (holds .head)) (session-at i (s .session) .fits .kb1)) ∙ holds .right)
+        eq-eqb (headReason (t .kb1) (holds .head)) noReason
+        (sym (ap (λ (x : ℕ). headReason x (holds .head)) (session-at i (s .session) .fits .kb1)) ∙ holds .right)
 
     -- what the whole message does is what its rest does
     rest-does : (ws : List ℕ) → isMessage (t .kb1) (b .side) (bytes ++ ws) ≡ endsIn (b .side) message ws
@@ -203,7 +208,8 @@ module _ (log : Log) (e : Event) (t : Talk) (b : Event) (bytes : List ℕ) (s : 
     one-more ws = ap (isMessage (t .kb1) (b .side)) (append-snoc bytes (e .value) ws) ∙ rest-does (e .value ∷ ws)
 
     -- a wrong byte: nothing makes it a frame
-    wrong-ends : eqb (laterReason message (b .side) (e .value)) noReason ≡ false → (ws : List ℕ) → isMessage (t .kb1) (b .side) ((bytes ++ (e .value ∷ [])) ++ ws) ≡ false
+    wrong-ends : eqb (laterReason message (b .side) (e .value)) noReason ≡ false → (ws : List ℕ)
+        → isMessage (t .kb1) (b .side) ((bytes ++ (e .value ∷ [])) ++ ws) ≡ false
     wrong-ends w ws = one-more ws ∙ rw w refl
 
     -- the checksum: `read` takes it
@@ -234,11 +240,13 @@ module _ (log : Log) (e : Event) (t : Talk) (b : Event) (bytes : List ℕ) (s : 
     unfolding afterStop
     no-stop q h = rw h refl
 
-    heard-run : (q : Phase) → move ≡ still q → isQuiet (q .state) ≡ false → byteHeard (begins-run link e) e (link .mark) ≡ withPhase (hearing (begins-run link e)) q
+    heard-run : (q : Phase) → move ≡ still q → isQuiet (q .state) ≡ false
+        → byteHeard (begins-run link e) e (link .mark) ≡ withPhase (hearing (begins-run link e)) q
     unfolding byteHeard begins-run moved
     heard-run q m h =
         let r = begins-run link e in
-        ap (λ (x : Move). moved (moved (hearing r) x) (afterStop (moved (hearing r) x .phase))) m ∙ ap (λ (x : Move). moved (withPhase (hearing r) q) x) (no-stop q h)
+        ap (λ (x : Move). moved (moved (hearing r) x) (afterStop (moved (hearing r) x .phase))) m
+        ∙ ap (λ (x : Move). moved (withPhase (hearing r) q) x) (no-stop q h)
 
     byte-run : handled link e ≡ byteHeard (begins-run link e) e (link .mark)
     unfolding handled
@@ -257,7 +265,8 @@ module _ (log : Log) (e : Event) (t : Talk) (b : Event) (bytes : List ℕ) (s : 
           session = session-on log e t q u (s .session);
           held = ap (λ (p : Phase). isHeld (p .state)) (u .phase);
           heard = (λ j. drop (u .named j) (byte-more log e n k j))
-              ∙ drop-append-le (link .named) (heardIn log) (e .value ∷ []) (within (link .named) (heardIn log) (holds .head) (holds .rest) (holds .bytes))
+              ∙ drop-append-le (link .named) (heardIn log) (e .value ∷ [])
+              (within (link .named) (heardIn log) (holds .head) (holds .rest) (holds .bytes))
               ∙ ap (λ (x : List ℕ). x ++ (e .value ∷ [])) (s .heard);
           whose = ap (λ (p : Phase). p .message .side) (u .phase) ∙ grown-side message (e .value) ∙ s .whose;
         }
@@ -298,7 +307,8 @@ module _ (log : Log) (e : Event) (t : Talk) (b : Event) (bytes : List ℕ) (s : 
         ∙ drop-append-le (link .named) (heardIn log) (e .value ∷ []) (within (link .named) (heardIn log) (holds .head) (holds .rest) (holds .bytes))
         ∙ ap (λ (x : List ℕ). x ++ (e .value ∷ [])) (s .heard)
 
-    frame-made : Bytes (bytes ++ (e .value ∷ [])) → goodPair (t .kb1) (t .kb2) ≡ true → readOf (t .kb1) (t .kb2) (bytes ++ (e .value ∷ [])) .no ≡ taken
+    frame-made : Bytes (bytes ++ (e .value ∷ [])) → goodPair (t .kb1) (t .kb2) ≡ true
+        → readOf (t .kb1) (t .kb2) (bytes ++ (e .value ∷ [])) .no ≡ taken
         → ReportsFrame (heardIn (log ▷ e)) (reportsTo ourStep log e) (bytes ++ (e .value ∷ []))
     unfolding reportOf
     frame-made f g r =
@@ -355,7 +365,8 @@ module _ (t : Talk) (before : Log) (b : Event) (i : InBytes (before ▷ b)) (o :
   -- with a right head it is held
   held-first : headReason (t .kb1) (b .value) ≡ noReason → isHeld (behind .phase .state) ≡ true
   held-first h =
-      let none = first-none t (gapBefore (takenOf before) b) b (has-side (takenOf before) b (o .number) (o .kind)) (t .kb1) (o .timely) (o .expected) h in
+      let none = first-none t (gapBefore (takenOf before) b) b (has-side (takenOf before) b (o .number) (o .kind)) (t .kb1) (o .timely)
+      (o .expected) h in
       let p = first-is in
       first-opened .fresh (byte-longer before b (o .number) (o .kind) ∙ ap (λ (x : ℕ). x + 1) (sym named-first))
       ((λ j. firstReason (t .kb1) (t .reply) (inForce t) (p .1 j .side) (p .1 j .value) (gapBefore (takenOf (p .0 j)) (p .1 j))) ∙ none)
@@ -369,7 +380,8 @@ module _ (t : Talk) (before : Log) (b : Event) (i : InBytes (before ▷ b)) (o :
           open-still (record {
             session = o .session;
             held = h;
-            heard = ap (drop (behind .named)) (byte-more before b (o .number) (o .kind)) ∙ drop-at (heardIn before) (b .value ∷ []) (behind .named) (sym named-first);
+            heard = ap (drop (behind .named)) (byte-more before b (o .number) (o .kind)) ∙ drop-at (heardIn before) (b .value ∷ []) (behind .named)
+                (sym named-first);
             whose = first-opened .held h .whose ∙ ap (λ (x : Event). x .side) (first-is .1);
           })
       by-head false c = hopeless (λ ws. rw c refl)
@@ -381,8 +393,10 @@ on-stands t b log e bytes q u (open-still s) = open-still (stand-on log e t b by
 on-stands t b log e bytes q u (hopeless f) = hopeless f
 on-stands t b log e bytes q u (done r) = done r
 
-grow-stands : (t : Talk) (b : Event) (log : Log) (e : Event) (bytes : List ℕ) → InBytes log → Bytes (bytes ++ (e .value ∷ [])) → goodPair (t .kb1) (t .kb2) ≡ true
-    → (readOf (t .kb1) (t .kb2) bytes .no ≡ taken → ⊥) → numberAfter (takenOf log) e ≡ taken → e .kind ≡ Byte → e .side ≡ b .side → InTime (takenOf log) e
+grow-stands : (t : Talk) (b : Event) (log : Log) (e : Event) (bytes : List ℕ) → InBytes log → Bytes (bytes ++ (e .value ∷ []))
+    → goodPair (t .kb1) (t .kb2) ≡ true
+    → (readOf (t .kb1) (t .kb2) bytes .no ≡ taken → ⊥) → numberAfter (takenOf log) e ≡ taken → e .kind ≡ Byte → e .side ≡ b .side
+    → InTime (takenOf log) e
     → Stands t b log bytes → Stands t b (log ▷ e) (bytes ++ (e .value ∷ []))
 grow-stands t b log e bytes i f g r n k d m (open-still s) = by-tests (eqb later noReason) (isSum part) refl refl
   where
@@ -408,10 +422,12 @@ stands {t = t} {b = b} i (refused {log = log} {bytes = bytes} {e = e} s n) =
 stands {t = t} {b = b} i (waits {log = log} {bytes = bytes} {e = e} s n k m) =
     on-stands t b log e bytes (other-more log e n (ap isByte k)) (λ x. tick-unmoved log e t b bytes x m n k) (stands (i .0) s)
 stands {t = t} {b = b} i (grows {log = log} {bytes = bytes} {e = e} s r n k d m) =
-    grow-stands t b log e bytes (i .0) (speaks-bytes {t = t} {b = b} {log = log ▷ e} i (grows s r n k d m)) (speaks-good (i .0) s) r n k d m (stands (i .0) s)
+    grow-stands t b log e bytes (i .0) (speaks-bytes {t = t} {b = b} {log = log ▷ e} i (grows s r n k d m)) (speaks-good (i .0) s) r n k d m
+    (stands (i .0) s)
 
 -- ---- the last byte
-alone-never : (t : Talk) (b : Event) → goodPair (t .kb1) (t .kb2) ≡ true → Bytes (b .value ∷ []) → readOf (t .kb1) (t .kb2) (b .value ∷ []) .no ≡ taken → ⊥
+alone-never : (t : Talk) (b : Event) → goodPair (t .kb1) (t .kb2) ≡ true → Bytes (b .value ∷ [])
+    → readOf (t .kb1) (t .kb2) (b .value ∷ []) .no ≡ taken → ⊥
 alone-never t b g f r =
     let m = message-reads (t .kb1) (t .kb2) (b .side) (b .value ∷ []) g f ∙ eq-eqb _ taken r in
     false≢true (by-test (λ (x : Bool). false ≡ x) (eqb (headReason (t .kb1) (b .value)) noReason) {x = false} {y = false} (λ _. refl) (λ _. refl) ∙ m)
@@ -436,7 +452,8 @@ last-reports es e t b bytes i (grows {bytes = front} s q m j d near) k n r = by-
     by-stand : Stands t b es front → ReportsFrame (heardIn (es ▷ e)) (reportsTo ourStep es e) (front ++ (e .value ∷ []))
     by-stand (open-still x) = frame-made es e t b front x near (i .0) n k d all-bytes good r
     by-stand (hopeless f) =
-        absurd (false≢true (sym (f (e .value ∷ [])) ∙ message-reads (t .kb1) (t .kb2) (b .side) (front ++ (e .value ∷ [])) good all-bytes ∙ eq-eqb _ taken r))
+        absurd (false≢true (sym (f (e .value ∷ [])) ∙ message-reads (t .kb1) (t .kb2) (b .side) (front ++ (e .value ∷ [])) good all-bytes
+        ∙ eq-eqb _ taken r))
     by-stand (done x) = absurd (q x)
 
 -- A BYTE IS REPORTED AS A FRAME exactly if it ends a message of the session in bytes that `read` takes, and the report names these

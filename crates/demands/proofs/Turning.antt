@@ -29,12 +29,14 @@ each-told es e all t rs r (still-up n f a) = f
 each-told es e all t rs r (over n f c) = f
 
 -- in a session
-told-in : (es : Log) (e : Event) (t : Talk) → InBytes (es ▷ e) → Session ourStep es t → Each (Told es e (reportsTo ourStep es e) t) (reportsTo ourStep es e)
+told-in : (es : Log) (e : Event) (t : Talk) → InBytes (es ▷ e) → Session ourStep es t
+    → Each (Told es e (reportsTo ourStep es e) t) (reportsTo ourStep es e)
 unfolding InBytes
 told-in es e t b s = each-told es e (reportsTo ourStep es e) t (reportsTo ourStep es e) _ (event-ends es e t b (session-at (b .0) s))
 
 -- a report 1 or 2 comes in a session
-comes-in : (es : Log) (e : Event) (r : Report) → InBytes (es ▷ e) → Among r (reportsTo ourStep es e) → (r .number ≡ frameReport) ⊎ (r .number ≡ damageReport) → SomeSession es
+comes-in : (es : Log) (e : Event) (r : Report) → InBytes (es ▷ e) → Among r (reportsTo ourStep es e)
+    → (r .number ≡ frameReport) ⊎ (r .number ≡ damageReport) → SomeSession es
 unfolding InBytes
 comes-in es e r b i n = by-state (isConnected (after ourStep es .link .phase .state)) refl
   where
@@ -43,7 +45,8 @@ comes-in es e r b i n = by-state (isConnected (after ourStep es .link .phase .st
     by-state false c = let x = none-unconnected es e c r i in absurd (⊎-elim (x .0) (x .1) n)
 
 -- A FRAME IS ONE THAT `read` TAKES
-pub frames-read : (es : Log) (e : Event) (r : Report) → InBytes (es ▷ e) → Among r (reportsTo ourStep es e) → r .number ≡ frameReport → Reads ourStep es e r
+pub frames-read : (es : Log) (e : Event) (r : Report) → InBytes (es ▷ e) → Among r (reportsTo ourStep es e) → r .number ≡ frameReport
+    → Reads ourStep es e r
 frames-read es e r b i n =
     let x = comes-in es e r b i (inl n) in
     record { talk = x .talk; session = x .session; reads = told-in es e (x .talk) b (x .session) r i .reads n }
@@ -62,8 +65,9 @@ turns-exactly es e r b i n =
     let x = comes-in es e r b i n in
     told-in es e (x .talk) b (x .session) r i .turns n
 
--- THE LINK IS STOPPED exactly by such a frame
-pub stops-exactly : (es : Log) (e : Event) (t : Talk) → InBytes (es ▷ e) → Session ourStep es t → Stopped (reportsTo ourStep es e) ↔ AnswersStop t es e
+-- THE LINK IS STOPPED exactly by a unit frame that answers a stop
+pub stops-exactly : (es : Log) (e : Event) (t : Talk) → InBytes (es ▷ e) → Session ourStep es t
+    → Stopped (reportsTo ourStep es e) ↔ AnswersStop t es e
 stops-exactly es e t b s = (
   λ x. told-in es e t b s (x .report) (x .made) .answers (x .number) (x .reason),
   λ x. told-in es e t b s (x .report) (x .made) .stops (x .number) (x .unit) (x .stop),

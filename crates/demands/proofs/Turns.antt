@@ -23,7 +23,8 @@ use Rattle.events.specs.declared.Kind.the-variants.{Byte, Other}
 use Rattle.events.specs.declared.Side.{Side}
 use Rattle.events.specs.declared.Side.the-variants.{Tester, Unit, Nobody}
 use Rattle.events.specs.declared.Event.{Event}
-use Rattle.talk.specs.Talk.{isNever, isFirst, testerTurn, isStray, isHasty, unitTurn, turnReason, isModeOne, placeAnnounced, headReason, firstReason, partReason, laterReason}
+use Rattle.talk.specs.Talk.{isNever, isFirst, testerTurn, isStray, isHasty, unitTurn, turnReason, isModeOne, placeAnnounced, headReason}
+use Rattle.talk.specs.Talk.{firstReason, partReason, laterReason}
 use Rattle.talk.specs.declared.Reply.{Reply}
 use Rattle.talk.specs.declared.Reply.the-variants.{Never, First, Further}
 use Rattle.talk.specs.declared.Part.{Part}
@@ -173,16 +174,19 @@ unfolding headReason
 head-elsewhere kb1 f =
     by-test Elsewhere (isModeOne (formatForm f)) {x = modeOne} (λ _. (λ z. omega arith, λ z. omega arith))
     (λ _. by-test Elsewhere (not (takesForm kb1 (formatForm f))) {x = wrongForm} (λ _. (λ z. omega arith, λ z. omega arith))
-    (λ _. by-test Elsewhere (placeAnnounced kb1 f) {x = noReason} {y = wrongLength} (λ _. (λ z. omega arith, λ z. omega arith)) (λ _. (λ z. omega arith, λ z. omega arith))))
+    (λ _. by-test Elsewhere (placeAnnounced kb1 f) {x = noReason} {y = wrongLength} (λ _. (λ z. omega arith, λ z. omega arith))
+    (λ _. (λ z. omega arith, λ z. omega arith))))
 
 part-elsewhere : (part : Part) (m : Message) (v : ℕ) → Elsewhere (partReason part m v)
 part-elsewhere Target m v = (λ z. omega arith, λ z. omega arith)
 part-elsewhere Source m v = (λ z. omega arith, λ z. omega arith)
 part-elsewhere Length m v =
-    by-test Elsewhere (eqb v 0) {x = wrongLength} {y = noReason} (λ _. (λ z. omega arith, λ z. omega arith)) (λ _. (λ z. omega arith, λ z. omega arith))
+    by-test Elsewhere (eqb v 0) {x = wrongLength} {y = noReason} (λ _. (λ z. omega arith, λ z. omega arith))
+    (λ _. (λ z. omega arith, λ z. omega arith))
 part-elsewhere Data m v = (λ z. omega arith, λ z. omega arith)
 part-elsewhere Sum m v =
-    by-test Elsewhere (eqb v (m .sum)) {x = noReason} {y = wrongSum} (λ _. (λ z. omega arith, λ z. omega arith)) (λ _. (λ z. omega arith, λ z. omega arith))
+    by-test Elsewhere (eqb v (m .sum)) {x = noReason} {y = wrongSum} (λ _. (λ z. omega arith, λ z. omega arith))
+    (λ _. (λ z. omega arith, λ z. omega arith))
 
 pub later-elsewhere : (m : Message) (side : Side) (v : ℕ) → Elsewhere (laterReason m side v)
 unfolding laterReason
@@ -191,8 +195,10 @@ later-elsewhere m side v =
 
 -- THE REASON OF A FIRST BYTE is 3 exactly if it is early, and 4 exactly if it is stray
 module _ (t : Talk) (gap : Micros) (b : Event) (sided : isNobody (b .side) ≡ false) (kb1 : ℕ) where
-  reason-by : (k : ℕ) (c : Bool) → eqb (turnReason (t .reply) (inForce t) (b .side) gap) noReason ≡ c → (noReason ≡ k → ⊥) → (headReason kb1 (b .value) ≡ k → ⊥)
-      → ((if c then headReason kb1 (b .value) else turnReason (t .reply) (inForce t) (b .side) gap) ≡ k) ↔ (turnReason (t .reply) (inForce t) (b .side) gap ≡ k)
+  reason-by : (k : ℕ) (c : Bool) → eqb (turnReason (t .reply) (inForce t) (b .side) gap) noReason ≡ c → (noReason ≡ k → ⊥)
+      → (headReason kb1 (b .value) ≡ k → ⊥)
+      → ((if c then headReason kb1 (b .value) else turnReason (t .reply) (inForce t) (b .side) gap) ≡ k) ↔
+      (turnReason (t .reply) (inForce t) (b .side) gap ≡ k)
   reason-by k true c n h = (λ e. absurd (h e), λ e. absurd (n (sym (eqb-true _ noReason c) ∙ e)))
   reason-by k false c n h = (λ e. e, λ e. e)
 
@@ -211,7 +217,8 @@ module _ (t : Talk) (gap : Micros) (b : Event) (sided : isNobody (b .side) ≡ f
       (λ e. y .0 (x .0 e), λ e. x .1 (y .1 e))
 
 -- neither early nor stray, and with a right head, it gets no reason
-turn-else : (reply : Reply) (w : Windows) (side : Side) (gap : Micros) → (turnReason reply w side gap ≡ early → ⊥) → (turnReason reply w side gap ≡ stray → ⊥)
+turn-else : (reply : Reply) (w : Windows) (side : Side) (gap : Micros) → (turnReason reply w side gap ≡ early → ⊥)
+    → (turnReason reply w side gap ≡ stray → ⊥)
     → turnReason reply w side gap ≡ noReason
 unfolding turnReason testerTurn unitTurn
 turn-else reply w side gap f g = by-tests (isTester side) (isFirst reply || isEarlier gap (w .p3min)) (isStray reply w gap) (isHasty w gap) f g
@@ -225,18 +232,22 @@ turn-else reply w side gap f g = by-tests (isTester side) (isFirst reply || isEa
     by-tests false b false true f g = absurd (f refl)
     by-tests false b false false f g = refl
 
-pub first-none : (t : Talk) (gap : Micros) (b : Event) → isNobody (b .side) ≡ false → (kb1 : ℕ) → (Early t gap b → ⊥) → (Stray t gap b → ⊥) → headReason kb1 (b .value) ≡ noReason
+pub first-none : (t : Talk) (gap : Micros) (b : Event) → isNobody (b .side) ≡ false → (kb1 : ℕ) → (Early t gap b → ⊥) → (Stray t gap b → ⊥)
+    → headReason kb1 (b .value) ≡ noReason
     → firstReason kb1 (t .reply) (inForce t) (b .side) (b .value) gap ≡ noReason
 unfolding firstReason
 first-none t gap b sided kb1 f g h =
-    let z = turn-else (t .reply) (inForce t) (b .side) gap (λ q. f (turn-early-by t gap b (b .side) refl sided .0 q)) (λ q. g (turn-stray-by t gap b (b .side) refl sided .0 q)) in
+    let z = turn-else (t .reply) (inForce t) (b .side) gap (λ q. f (turn-early-by t gap b (b .side) refl sided .0 q))
+    (λ q. g (turn-stray-by t gap b (b .side) refl sided .0 q)) in
     rw (eq-eqb (turnReason (t .reply) (inForce t) (b .side) gap) noReason z) h
 
 -- where a first byte gets no reason, its head gets none
-pub first-head : (kb1 : ℕ) (reply : Reply) (w : Windows) (side : Side) (f : ℕ) (gap : Micros) → firstReason kb1 reply w side f gap ≡ noReason → headReason kb1 f ≡ noReason
+pub first-head : (kb1 : ℕ) (reply : Reply) (w : Windows) (side : Side) (f : ℕ) (gap : Micros) → firstReason kb1 reply w side f gap ≡ noReason
+    → headReason kb1 f ≡ noReason
 unfolding firstReason
 first-head kb1 reply w side f gap e = by-turn (eqb (turnReason reply w side gap) noReason) refl e
   where
-    by-turn : (c : Bool) → eqb (turnReason reply w side gap) noReason ≡ c → (if c then headReason kb1 f else turnReason reply w side gap) ≡ noReason → headReason kb1 f ≡ noReason
+    by-turn : (c : Bool) → eqb (turnReason reply w side gap) noReason ≡ c → (if c then headReason kb1 f else turnReason reply w side gap) ≡ noReason
+        → headReason kb1 f ≡ noReason
     by-turn true c e = e
     by-turn false c e = absurd (eqb-false _ noReason c e)

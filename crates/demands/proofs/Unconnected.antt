@@ -7,7 +7,8 @@ use native.Mathlib.Omega.{arith}
 use borrow.Author.Tests.{eqb-true, eqb-false}
 use lib.Dec.{eqb}
 use Rattle.base.specs.Numbers.{taken}
-use Rattle.base.specs.Reports.{frameReport, damageReport, failedReport, connectedReport, notIdleReport, downReport, noReason, closed, windowOver, wrongLow, stopped, idleOver, dropped, restarted}
+use Rattle.base.specs.Reports.{frameReport, damageReport, failedReport, connectedReport, notIdleReport, downReport, noReason, closed}
+use Rattle.base.specs.Reports.{windowOver, wrongLow, stopped, idleOver, dropped, restarted}
 use Rattle.base.proofs.Tests.{and-split, by-test}
 use Rattle.units.specs.Units.{gapOf}
 use Rattle.units.specs.declared.Micros.{Micros}
@@ -69,7 +70,8 @@ quiet-off Damage c q = false≢true (sym c)
 apart-tells : (r : Run) (m : Move) → Apart (m .number) → Each Other12 (tells r m)
 unfolding tells reportOf
 apart-tells r m a =
-    by-test (Each Other12) (eqb (m .number) 0) {x = []} {y = reportOf r (m .number) (m .reason) ∷ []} (λ _. each-none Other12) (λ _. each-one Other12 _ a)
+    by-test (Each Other12) (eqb (m .number) 0) {x = []} {y = reportOf r (m .number) (m .reason) ∷ []} (λ _. each-none Other12)
+    (λ _. each-one Other12 _ a)
 
 -- a move that makes neither report and leaves the link unconnected
 record Mild (m : Move) : Type 0 where
@@ -86,7 +88,8 @@ down-mild number reason a = record { apart = a; off = refl }
 silence-mild : (p : Phase) (gap : Micros) → Off p → Mild (afterSilence p gap)
 unfolding afterSilence
 silence-mild p gap c =
-    by-test Mild (isOpen (p .state) && isSilent gap) (λ t. absurd (open-off (p .state) c (and-split (isOpen (p .state)) (isSilent gap) t .0))) (λ _. still-mild p c)
+    by-test Mild (isOpen (p .state) && isSilent gap) (λ t. absurd (open-off (p .state) c (and-split (isOpen (p .state)) (isSilent gap) t .0)))
+    (λ _. still-mild p c)
 
 p2-mild : (p : Phase) (gap : Micros) → Off p → Mild (afterP2 p gap)
 unfolding afterP2
@@ -133,19 +136,23 @@ slow-apart address mark start =
 fast-apart : (mark fall rise : Micros) → Apart (startingFast mark fall rise .number)
 unfolding startingFast
 fast-apart mark fall rise =
-    by-test (λ (m : Move). Apart (m .number)) (not (isIdle mark fall)) {x = makes notIdleReport noReason down} (λ _. (λ z. omega arith, λ z. omega arith))
+    by-test (λ (m : Move). Apart (m .number)) (not (isIdle mark fall)) {x = makes notIdleReport noReason down}
+    (λ _. (λ z. omega arith, λ z. omega arith))
     (λ _. by-test (λ (m : Move). Apart (m .number)) (isGoodLow fall rise) {y = makes failedReport wrongLow down}
     (λ _. (λ z. omega arith, λ z. omega arith)) (λ _. (λ z. omega arith, λ z. omega arith)))
 
 start-apart : (p : Phase) (side : Side) (v : ℕ) (gap : Micros) → Apart (startByte p side v gap .number)
 unfolding startByte
 start-apart p side v gap =
-    by-test (λ (m : Move). Apart (m .number)) (not (eqb (judged (p .start) side v gap) noReason)) {x = makes failedReport (judged (p .start) side v gap) down}
+    by-test (λ (m : Move). Apart (m .number)) (not (eqb (judged (p .start) side v gap) noReason))
+    {x = makes failedReport (judged (p .start) side v gap) down}
     (λ _. (λ z. omega arith, λ z. omega arith))
-    (λ _. by-test (λ (m : Move). Apart (m .number)) (isLast (p .start .stage)) {x = makes connectedReport noReason (connected (p .start))} {y = still (starting (p .fall) (onward (p .start) v))}
+    (λ _. by-test (λ (m : Move). Apart (m .number)) (isLast (p .start .stage)) {x = makes connectedReport noReason (connected (p .start))}
+    {y = still (starting (p .fall) (onward (p .start) v))}
     (λ _. (λ z. omega arith, λ z. omega arith)) (λ _. (λ z. omega arith, λ z. omega arith)))
 
-byte-apart : (st : State) (p : Phase) (side : Side) (v : ℕ) (mark start : Micros) → isConnected st ≡ false → Apart (byteIn st p side v mark start .number)
+byte-apart : (st : State) (p : Phase) (side : Side) (v : ℕ) (mark start : Micros) → isConnected st ≡ false
+    → Apart (byteIn st p side v mark start .number)
 unfolding isConnected
 byte-apart Down p side v mark start c = (λ z. omega arith, λ z. omega arith)
 byte-apart Starting p side v mark start c = start-apart p side v (sinceOrigin p mark start)
@@ -182,7 +189,11 @@ passing r mark start c =
     let d4 = window-mild (r3 .phase) mark start c3 in
     let t12 = each-both Other12 (tells r m1) (tells r1 m2) (apart-tells r m1 (d1 .apart)) (apart-tells r1 m2 (d2 .apart)) in
     let t123 = each-both Other12 (tells r m1 ++ tells r1 m2) (tells r2 m3) t12 (apart-tells r2 m3 (d3 .apart)) in
-    record { each = each-both Other12 (tells r m1 ++ tells r1 m2 ++ tells r2 m3) (tells r3 m4) t123 (apart-tells r3 m4 (d4 .apart)); off = moved-off r3 m4 d4 }
+    record {
+      each = each-both Other12 (tells r m1 ++ tells r1 m2 ++ tells r2 m3) (tells r3 m4) t123
+          (apart-tells r3 m4 (d4 .apart));
+      off = moved-off r3 m4 d4;
+    }
 
 shutting : (r : Run) (reason : ℕ) → Off (r .phase) → Each Other12 (shutTells r reason)
 unfolding shutTells
@@ -198,7 +209,8 @@ hearing-byte r e mark c =
     let m1 = byteIn (r .phase .state) (r .phase) (e .side) (e .value) mark (e .start) in
     let r1 = moved (hearing r) m1 in
     each-both Other12 (tells (hearing r) m1) (tells r1 (afterStop (r1 .phase)))
-    (apart-tells (hearing r) m1 (byte-apart (r .phase .state) (r .phase) (e .side) (e .value) mark (e .start) c)) (apart-tells r1 (afterStop (r1 .phase)) (stop-apart (r1 .phase)))
+    (apart-tells (hearing r) m1 (byte-apart (r .phase .state) (r .phase) (e .side) (e .value) mark (e .start) c))
+    (apart-tells r1 (afterStop (r1 .phase)) (stop-apart (r1 .phase)))
 
 acting : (k : Kind) (r : Run) (e : Event) (mark : Micros) → Off (r .phase) → Each Other12 (actedTells k r e mark)
 acting Address r e mark c =
@@ -216,7 +228,8 @@ handling : (l : Link) (e : Event) → Off (l .phase) → Each Other12 (handledTe
 unfolding handledTells begun
 handling l e c =
     let x = passing (begun l e) (l .mark) (e .start) c in
-    each-both Other12 (passedTells (begun l e) (l .mark) (e .start)) (actedTells (e .kind) (passed (begun l e) (l .mark) (e .start)) e (l .mark)) (x .each)
+    each-both Other12 (passedTells (begun l e) (l .mark) (e .start)) (actedTells (e .kind) (passed (begun l e) (l .mark) (e .start)) e (l .mark))
+    (x .each)
     (acting (e .kind) (passed (begun l e) (l .mark) (e .start)) e (l .mark) (x .off))
 
 refused-none : (l : Link) (k : ℕ) → Each Other12 (listed (refusedBy l k .reports))
