@@ -31,8 +31,9 @@ use Rattle.reports.specs.Reporting.{told, moved}
 use Rattle.reports.specs.declared.Run.{Run}
 use Rattle.link.specs.Handling.{passed, shut, hearing, byteHeard, actedBy, acted, begun, handled, linkAfter}
 use Rattle.link.specs.declared.Link.{Link}
+use Rattle.link.specs.Stepping.{stepOf}
 use Rattle.demands.specs.Logs.{Log, _▷_, numberAfter, takenOf}
-use Rattle.demands.specs.Histories.{ourStep, after}
+use Rattle.demands.specs.Histories.{after}
 use Rattle.demands.specs.Connecting.{Connects}
 use Rattle.demands.proofs.Tiling.{moved-phase}
 use Rattle.demands.proofs.Phases.{In, byte-starts, start-connects}
@@ -201,24 +202,24 @@ module _ (l : Link) (e : Event) where
 
 -- ---- behind events
 module _ (es : Log) (e : Event) where
-  phase-taken : numberAfter (takenOf es) e ≡ taken → after ourStep (es ▷ e) .link .phase .state ≡ handled (after ourStep es .link) e .phase .state
+  phase-taken : numberAfter (takenOf es) e ≡ taken → after stepOf (es ▷ e) .link .phase .state ≡ handled (after stepOf es .link) e .phase .state
   unfolding linkAfter
   phase-taken q = ap (λ (l : Link). l .phase .state) (link-taken es e q)
 
-  becomes-by : (b : Bool) → eqb (numberAfter (takenOf es) e) taken ≡ b → isConnected (after ourStep es .link .phase .state) ≡ false
-      → isConnected (after ourStep (es ▷ e) .link .phase .state) ≡ true → (numberAfter (takenOf es) e ≡ taken) × Connects (takenOf es) e
+  becomes-by : (b : Bool) → eqb (numberAfter (takenOf es) e) taken ≡ b → isConnected (after stepOf es .link .phase .state) ≡ false
+      → isConnected (after stepOf (es ▷ e) .link .phase .state) ≡ true → (numberAfter (takenOf es) e ≡ taken) × Connects (takenOf es) e
   becomes-by true q c h =
       let t = eqb-true _ _ q in
-      (t, completes-connects es e t .0 (becomes-completes (after ourStep es .link) e c (sym (ap isConnected (phase-taken t)) ∙ h)))
+      (t, completes-connects es e t .0 (becomes-completes (after stepOf es .link) e c (sym (ap isConnected (phase-taken t)) ∙ h)))
   becomes-by false q c h =
       absurd (false≢true (sym c ∙ (sym (ap (λ (l : Link). isConnected (l .phase .state)) (link-refused es e (eqb-false _ _ q))) ∙ h)))
 
 -- THE THEOREM
 pub becomes-connected-exactly : (es : Log) (e : Event)
-    → ((isConnected (after ourStep es .link .phase .state) ≡ false) × (isConnected (after ourStep (es ▷ e) .link .phase .state) ≡ true))
+    → ((isConnected (after stepOf es .link .phase .state) ≡ false) × (isConnected (after stepOf (es ▷ e) .link .phase .state) ≡ true))
     ↔ ((numberAfter (takenOf es) e ≡ taken) × Connects (takenOf es) e)
 becomes-connected-exactly es e = (
   (λ h. becomes-by es e (eqb (numberAfter (takenOf es) e) taken) refl (h .0) (h .1)),
-  (λ c. let b = completes-becomes (after ourStep es .link) e (completes-connects es e (c .0) .1 (c .1)) in
+  (λ c. let b = completes-becomes (after stepOf es .link) e (completes-connects es e (c .0) .1 (c .1)) in
       (b .0, ap isConnected (phase-taken es e (c .0)) ∙ b .1)),
 )

@@ -25,12 +25,12 @@ use Rattle.reports.specs.Reporting.{noReports, listed}
 use Rattle.reports.specs.declared.Report.{Report}
 use Rattle.reports.specs.declared.Run.{Run}
 use Rattle.link.specs.Handling.{passed, actedBy, acted, begun, handled, linkAfter}
-use Rattle.link.specs.Stepping.{refusedBy, takenBy}
+use Rattle.link.specs.Stepping.{refusedBy, takenBy, stepOf}
 use Rattle.link.specs.declared.Link.{Link}
 use Rattle.link.specs.declared.Answer.{Answer}
 use Rattle.link.proofs.Three.{passedTells, actedTells, handledTells, three-enough}
 use Rattle.demands.specs.Logs.{Log, _▷_, heardIn, numberAfter, takenOf, InBytes}
-use Rattle.demands.specs.Histories.{ourStep, after, answerTo, reportsTo, Says, isAmong, Among}
+use Rattle.demands.specs.Histories.{after, answerTo, reportsTo, Says, isAmong, Among}
 use Rattle.demands.specs.Connecting.{Connects}
 use Rattle.demands.specs.Sessions.{pendingIn, windowsIn, Talk, opening, talkAfter, Session, opens, lasts}
 use Rattle.demands.proofs.Basics.{basics, answer-taken, answer-refused, calm}
@@ -52,7 +52,7 @@ tick-speaks es e n k i t b bytes s = waits s n k i
 
 module _ (es : Log) (e : Event) (t : Talk) (b : InBytes (es ▷ e)) (number : numberAfter (takenOf es) e ≡ taken) where
   abbrev here : Link
-  here = after ourStep es .link
+  here = after stepOf es .link
 
   room : length (heardIn es) ≤ 4_000_000_000
   room = let x = basics es in omega (arith, x .few, x .bound)
@@ -94,7 +94,7 @@ abbrev pub runAt : Link → Run
 runAt l = record { phase = l .phase; heard = l .heard; named = l .named; time = micros 0; reports = noReports }
 
 abbrev pub AtLink : Log → Talk → Type 0
-AtLink es t = At es t (after ourStep es .link .phase) (after ourStep es .link .named) (after ourStep es .link .heard)
+AtLink es t = At es t (after stepOf es .link .phase) (after stepOf es .link .named) (after stepOf es .link .heard)
 
 abbrev Answered : Log → Event → Talk → Answer → Type 0
 Answered es e t a = Ends es e (listed (a .reports)) t (listed (a .reports)) (runAt (a .link))
@@ -106,30 +106,30 @@ same-run es e all t rs r l p n h (still-up k f a) = still-up k f (λ s m. subst�
 same-run es e all t rs r l p n h (over k f c) = over k f (sym (ap (λ (q : Phase). isConnected (q .state)) p) ∙ c)
 
 taken-ends : (es : Log) (e : Event) (t : Talk) → InBytes (es ▷ e) → numberAfter (takenOf es) e ≡ taken → AtLink es t
-    → Answered es e t (takenBy (after ourStep es .link) e)
+    → Answered es e t (takenBy (after stepOf es .link) e)
 unfolding takenBy linkAfter
 taken-ends es e t b n a =
-    let l = after ourStep es .link in
+    let l = after stepOf es .link in
     let x = same-run es e (handledTells l e) t (handledTells l e) (handled l e) (linkAfter l e (handled l e)) refl refl refl
     (handled-ends es e t b n a) in
     subst (λ (rs : List Report). Ends es e rs t rs (runAt (linkAfter l e (handled l e)))) (sym (three-enough l e)) x
 
 refused-ends : (es : Log) (e : Event) (t : Talk) (k : ℕ) → eqb (numberAfter (takenOf es) e) taken ≡ false → AtLink es t
-    → Answered es e t (refusedBy (after ourStep es .link) k)
+    → Answered es e t (refusedBy (after stepOf es .link) k)
 unfolding refusedBy listed isAmong talkAfter
 refused-ends es e t k n a =
-    let l = after ourStep es .link in
+    let l = after stepOf es .link in
     still-up refl (each-none (Told es e [] t))
     (λ _ _. at-more es e t (l .phase) (l .named) (refused-more es e n) (l .heard)
     (λ _ b bytes s. refused s (eqb-false (numberAfter (takenOf es) e) taken n)) a)
 
 -- WHAT AN EVENT LEAVES OF A SESSION, and what its reports are
 pub event-ends : (es : Log) (e : Event) (t : Talk) → InBytes (es ▷ e) → AtLink es t
-    → Ends es e (reportsTo ourStep es e) t (reportsTo ourStep es e) (runAt (after ourStep (es ▷ e) .link))
+    → Ends es e (reportsTo stepOf es e) t (reportsTo stepOf es e) (runAt (after stepOf (es ▷ e) .link))
 unfolding after
 event-ends es e t b a = by-number (eqb (numberAfter (takenOf es) e) taken) refl
   where
-    by-number : (c : Bool) → eqb (numberAfter (takenOf es) e) taken ≡ c → Answered es e t (answerTo ourStep es e)
+    by-number : (c : Bool) → eqb (numberAfter (takenOf es) e) taken ≡ c → Answered es e t (answerTo stepOf es e)
     by-number true n =
         let k = eqb-true (numberAfter (takenOf es) e) taken n in
         subst (Answered es e t) (sym (answer-taken es e k)) (taken-ends es e t b k a)
@@ -141,7 +141,7 @@ opens-at : (es : Log) (e : Event) → numberAfter (takenOf es) e ≡ taken → (
 unfolding after isConnected isQuiet isOpen isStarting windowsIn pendingIn
 opens-at es e n c =
     let x = connects-names es e n c in
-    let p = after ourStep (es ▷ e) .link .phase in
+    let p = after stepOf (es ▷ e) .link .phase in
     record {
       fits = record {
         connected = ap isConnected (x .state);
@@ -157,16 +157,16 @@ opens-at es e n c =
       opened = λ o. absurd (false≢true (sym (ap isOpen (x .state)) ∙ o));
     }
 
-goes-on : (es : Log) (e : Event) (t : Talk) (r : Run) (all : List Report) → Ends es e all t (reportsTo ourStep es e) r
-    → after ourStep (es ▷ e) .link .named ≡ r .named → (Says downReport (reportsTo ourStep es e) → ⊥)
-    → Session ourStep (es ▷ e) (talked es e all t (reportsTo ourStep es e))
-    → At (es ▷ e) (talked es e all t (reportsTo ourStep es e)) (r .phase) (r .named) (r .heard)
+goes-on : (es : Log) (e : Event) (t : Talk) (r : Run) (all : List Report) → Ends es e all t (reportsTo stepOf es e) r
+    → after stepOf (es ▷ e) .link .named ≡ r .named → (Says downReport (reportsTo stepOf es e) → ⊥)
+    → Session stepOf (es ▷ e) (talked es e all t (reportsTo stepOf es e))
+    → At (es ▷ e) (talked es e all t (reportsTo stepOf es e)) (r .phase) (r .named) (r .heard)
 goes-on es e t r all (still-up k f a) m n s = a s m
 goes-on es e t r all (over k f c) m n s = absurd (n k)
 
 -- THE LINK OF A SESSION is as the session says
-pub session-at : {es : Log} {t : Talk} → InBytes es → Session ourStep es t → AtLink es t
+pub session-at : {es : Log} {t : Talk} → InBytes es → Session stepOf es t → AtLink es t
 unfolding InBytes
 session-at b (opens {es = es} {e = e} n c) = opens-at es e n c
 session-at b (lasts {es = es} {e = e} {t = t} s n) =
-    goes-on es e t _ (reportsTo ourStep es e) (event-ends es e t b (session-at (b .0) s)) refl n (lasts s n)
+    goes-on es e t _ (reportsTo stepOf es e) (event-ends es e t b (session-at (b .0) s)) refl n (lasts s n)

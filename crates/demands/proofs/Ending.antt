@@ -21,8 +21,9 @@ use Rattle.reports.specs.declared.Report.{Report}
 use Rattle.reports.specs.declared.Run.{Run}
 use Rattle.link.specs.Handling.{shut}
 use Rattle.link.proofs.Three.{tells, shutTells}
+use Rattle.link.specs.Stepping.{stepOf}
 use Rattle.demands.specs.Logs.{Log, _▷_, heardIn}
-use Rattle.demands.specs.Histories.{ourStep, after, isAmong}
+use Rattle.demands.specs.Histories.{after, isAmong}
 use Rattle.demands.specs.Sessions.{Talk, talkAfter, Session}
 use Rattle.demands.proofs.Holding.{Idle, closing-idle}
 use Rattle.demands.proofs.Tiling.{moved-phase}
@@ -55,7 +56,7 @@ shut-leaves r reason =
 module _ (es : Log) (e : Event) (all : List Report) where
   pub data Ends (t : Talk) (rs : List Report) (r : Run) : Type 0 where
     still-up : isAmong downReport rs ≡ false → Each (Told es e all t) rs
-        → (Session ourStep (es ▷ e) (talked es e all t rs) → after ourStep (es ▷ e) .link .named ≡ r .named
+        → (Session stepOf (es ▷ e) (talked es e all t rs) → after stepOf (es ▷ e) .link .named ≡ r .named
         → At (es ▷ e) (talked es e all t rs) (r .phase) (r .named) (r .heard)) → Ends t rs r
     over : isAmong downReport rs ≡ true → Each (Told es e all t) rs → isConnected (r .phase .state) ≡ false → Ends t rs r
 
@@ -69,7 +70,7 @@ module _ (es : Log) (e : Event) (all : List Report) where
       on (still-up k h b) =
           let p = talked-both es e all t reply rs ss q in
           still-up (says-none es e all rs ss n k) (each-both (Told es e all t) rs ss f h)
-          (λ v n. subst (λ (u : Talk). At (es ▷ e) u (s .phase) (s .named) (s .heard)) (sym p) (b (subst (Session ourStep (es ▷ e)) p v) n))
+          (λ v n. subst (λ (u : Talk). At (es ▷ e) u (s .phase) (s .named) (s .heard)) (sym p) (b (subst (Session stepOf (es ▷ e)) p v) n))
       on (over k h c) = over (says-second es e all rs ss k) (each-both (Told es e all t) rs ss f h) c
   behind t rs ss r s (gone n f q) g d =
       let x = d q in

@@ -17,11 +17,11 @@ use Rattle.events.specs.declared.Kind.the-variants.{Address, WakeUp, Byte, Tick
 use Rattle.events.specs.declared.Event.{Event}
 use Rattle.reports.specs.Reporting.{listed}
 use Rattle.link.specs.Handling.{handled, linkAfter}
-use Rattle.link.specs.Stepping.{refusedBy, takenBy}
+use Rattle.link.specs.Stepping.{refusedBy, takenBy, stepOf}
 use Rattle.link.specs.declared.Link.{Link}
 use Rattle.link.specs.declared.Answer.{Answer}
 use Rattle.demands.specs.Logs.{Log, none, _▷_, markOf, numberAfter, takenOf}
-use Rattle.demands.specs.Histories.{ourStep, after, reportsTo, isAmong, Says}
+use Rattle.demands.specs.Histories.{after, reportsTo, isAmong, Says}
 use Rattle.demands.specs.Starts.{SlowStart, FastStart}
 use Rattle.demands.specs.Connecting.{Connects}
 use Rattle.demands.proofs.Numbering.{log-numbered}
@@ -93,7 +93,7 @@ ended-by log e c = record {
 }
 
 -- ---- behind events
-pub behind : (es : Log) (e : Event) → numberAfter (takenOf es) e ≡ taken → Behind (after ourStep es .link) (takenOf es) e
+pub behind : (es : Log) (e : Event) → numberAfter (takenOf es) e ≡ taken → Behind (after stepOf es .link) (takenOf es) e
 behind es e q =
     let b = basics es in
     let t = timely (takenOf es) e q in
@@ -108,13 +108,13 @@ behind es e q =
 -- the link and the events taken, behind one event more
 module _ (es : Log) (e : Event) where
   abbrev l : Link
-  l = after ourStep es .link
+  l = after stepOf es .link
 
-  pub link-taken : numberAfter (takenOf es) e ≡ taken → after ourStep (es ▷ e) .link ≡ linkAfter l e (handled l e)
+  pub link-taken : numberAfter (takenOf es) e ≡ taken → after stepOf (es ▷ e) .link ≡ linkAfter l e (handled l e)
   unfolding after takenBy
   link-taken q = ap (λ (a : Answer). a .link) (answer-taken es e q)
 
-  pub link-refused : (numberAfter (takenOf es) e ≡ taken → ⊥) → after ourStep (es ▷ e) .link ≡ l
+  pub link-refused : (numberAfter (takenOf es) e ≡ taken → ⊥) → after stepOf (es ▷ e) .link ≡ l
   unfolding after refusedBy
   link-refused q = ap (λ (a : Answer). a .link) (answer-refused es e q)
 
@@ -126,46 +126,46 @@ module _ (es : Log) (e : Event) where
   unfolding takenOf
   log-refused q = rw q
 
-  inv-by : (b : Bool) → eqb (numberAfter (takenOf es) e) taken ≡ b → Inv l (takenOf es) → Inv (after ourStep (es ▷ e) .link) (takenOf (es ▷ e))
+  inv-by : (b : Bool) → eqb (numberAfter (takenOf es) e) taken ≡ b → Inv l (takenOf es) → Inv (after stepOf (es ▷ e) .link) (takenOf (es ▷ e))
   inv-by true q inv =
       let t = eqb-true _ _ q in
       rw (link-taken t, log-taken t) (inv-on l (takenOf es) e (behind es e t) inv)
   inv-by false q inv = rw (link-refused (eqb-false _ _ q), log-refused q) inv
 
-pub inv-of : (es : Log) → Inv (after ourStep es .link) (takenOf es)
+pub inv-of : (es : Log) → Inv (after stepOf es .link) (takenOf es)
 unfolding after takenOf
 inv-of none = inv-fresh
 inv-of (es ▷ e) = inv-by es e (eqb (numberAfter (takenOf es) e) taken) refl (inv-of es)
 
 -- an event that is taken completes the link's initialization exactly if it completes one on the events taken
-pub completes-connects : (es : Log) (e : Event) → numberAfter (takenOf es) e ≡ taken → Completes (after ourStep es .link) e ↔ Connects (takenOf es) e
+pub completes-connects : (es : Log) (e : Event) → numberAfter (takenOf es) e ≡ taken → Completes (after stepOf es .link) e ↔ Connects (takenOf es) e
 completes-connects es e q =
     let b = behind es e q in (
-      (λ c. connects-of (takenOf es) e (ends-of (after ourStep es .link) (takenOf es) e b (inv-of es) c)),
-      (λ c. completes-of (after ourStep es .link) (takenOf es) e b (inv-of es) (ended-by (takenOf es) e c) .0),
+      (λ c. connects-of (takenOf es) e (ends-of (after stepOf es .link) (takenOf es) e b (inv-of es) c)),
+      (λ c. completes-of (after stepOf es .link) (takenOf es) e b (inv-of es) (ended-by (takenOf es) e c) .0),
     )
 
 -- ---- the reports of an event that is taken, and of one that is refused
 pub reports-taken : (es : Log) (e : Event) → numberAfter (takenOf es) e ≡ taken
-    → reportsTo ourStep es e ≡ listed (handled (after ourStep es .link) e .reports)
+    → reportsTo stepOf es e ≡ listed (handled (after stepOf es .link) e .reports)
 unfolding takenBy
 reports-taken es e q = ap (λ (a : Answer). listed (a .reports)) (answer-taken es e q)
 
-refused-none : (es : Log) (e : Event) → (numberAfter (takenOf es) e ≡ taken → ⊥) → isAmong connectedReport (reportsTo ourStep es e) ≡ false
+refused-none : (es : Log) (e : Event) → (numberAfter (takenOf es) e ≡ taken → ⊥) → isAmong connectedReport (reportsTo stepOf es e) ≡ false
 unfolding refusedBy listed isAmong
 refused-none es e q = ap (λ (a : Answer). isAmong connectedReport (listed (a .reports))) (answer-refused es e q)
 
-forward-by : (b : Bool) (es : Log) (e : Event) → eqb (numberAfter (takenOf es) e) taken ≡ b → Says connectedReport (reportsTo ourStep es e)
+forward-by : (b : Bool) (es : Log) (e : Event) → eqb (numberAfter (takenOf es) e) taken ≡ b → Says connectedReport (reportsTo stepOf es e)
     → (numberAfter (takenOf es) e ≡ taken) × Connects (takenOf es) e
 forward-by true es e q s =
     let t = eqb-true _ _ q in
-    (t, completes-connects es e t .0 (says-completes (after ourStep es .link) e (sym (ap (isAmong connectedReport) (reports-taken es e t)) ∙ s)))
+    (t, completes-connects es e t .0 (says-completes (after stepOf es .link) e (sym (ap (isAmong connectedReport) (reports-taken es e t)) ∙ s)))
 forward-by false es e q s = absurd (false≢true (sym (refused-none es e (eqb-false _ _ q)) ∙ s))
 
 -- THE THEOREM
 pub connects-exactly : (es : Log) (e : Event)
-    → Says connectedReport (reportsTo ourStep es e) ↔ ((numberAfter (takenOf es) e ≡ taken) × Connects (takenOf es) e)
+    → Says connectedReport (reportsTo stepOf es e) ↔ ((numberAfter (takenOf es) e ≡ taken) × Connects (takenOf es) e)
 connects-exactly es e = (
   forward-by (eqb (numberAfter (takenOf es) e) taken) es e refl,
-  (λ c. ap (isAmong connectedReport) (reports-taken es e (c .0)) ∙ completes-says (after ourStep es .link) e (completes-connects es e (c .0) .1 (c .1))),
+  (λ c. ap (isAmong connectedReport) (reports-taken es e (c .0)) ∙ completes-says (after stepOf es .link) e (completes-connects es e (c .0) .1 (c .1))),
 )

@@ -15,8 +15,9 @@ use Rattle.events.specs.declared.Kind.the-variants.{Address, WakeUp, Byte}
 use Rattle.events.specs.declared.Side.{Side}
 use Rattle.events.specs.declared.Side.the-variants.{Tester, Unit, Nobody}
 use Rattle.events.specs.declared.Event.{Event}
+use Rattle.link.specs.Stepping.{stepOf}
 use Rattle.demands.specs.Logs.{Log, none, _▷_, clockOf, markOf, countOf, heardOf, numberAfter, takenOf}
-use Rattle.demands.specs.Histories.{ourStep, reportsTo}
+use Rattle.demands.specs.Histories.{reportsTo}
 use Rattle.demands.specs.Starts.{SlowStart, slow, request, addressed, FastStart, fast}
 use Rattle.demands.specs.Connecting.{here, byte, Connects}
 use Rattle.demands.proofs.Names.{connects-names}
@@ -128,12 +129,12 @@ slow-number : numberAfter (takenOf slowEvents) slowLast ≡ taken
 unfolding takenOf numberAfter clockOf countOf refusal isUnknown isTooLate isOutOfOrder isOther isByte isNobody
 slow-number = refl
 
-pub fast-reports : reportsTo ourStep fastEvents fastLast
+pub fast-reports : reportsTo stepOf fastEvents fastLast
     ≡ (record { first = 0; bytes = 12; time = micros 411_520; number = connectedReport; reason = noReason } ∷ [])
 unfolding takenOf numberAfter clockOf countOf refusal isUnknown isTooLate isOutOfOrder isOther isByte isNobody heardOf
 fast-reports = connects-names fastEvents fastLast fast-number fast-connects .reports
 
-pub slow-reports : reportsTo ourStep slowEvents slowLast
+pub slow-reports : reportsTo stepOf slowEvents slowLast
     ≡ (record { first = 0; bytes = 5; time = micros 5_179_800; number = connectedReport; reason = noReason } ∷ [])
 unfolding takenOf numberAfter clockOf countOf refusal isUnknown isTooLate isOutOfOrder isOther isByte isNobody heardOf
 slow-reports = connects-names slowEvents slowLast slow-number slow-connects .reports

@@ -36,8 +36,9 @@ use Rattle.reports.specs.declared.Report.{Report}
 use Rattle.reports.specs.declared.Run.{Run}
 use Rattle.link.specs.Handling.{passed}
 use Rattle.link.proofs.Three.{tells, passedTells}
+use Rattle.link.specs.Stepping.{stepOf}
 use Rattle.demands.specs.Logs.{Log, _▷_, heardIn, numberAfter, takenOf, Begins, more}
-use Rattle.demands.specs.Histories.{ourStep, isAmong}
+use Rattle.demands.specs.Histories.{isAmong}
 use Rattle.demands.specs.Accounts.{namedBy}
 use Rattle.demands.specs.Sessions.{Frames, stops, pendingIn, Talk, afterReport, talkAfter, Session, inForce, gapBefore, Stray, Early, Turns}
 use Rattle.demands.specs.Messages.{Speaks, EndsInFrame}
@@ -64,7 +65,7 @@ pub record Holds (es : Log) (t : Talk) (b : Event) (p : Phase) (named : ℕ) : T
   pub right : headReason (p .start .kb1) head ≡ noReason
   pub gone : GoneOn (b .side) (opening-message (b .side) head) rest (p .message)
   pub whose : p .message .side ≡ b .side
-  pub spoken : Speaks ourStep t b es (head ∷ rest)
+  pub spoken : Speaks stepOf t b es (head ∷ rest)
 
 -- A message held or damage: its first byte, and whether that was early or stray; no report was made since, so that the session is the present one.
 -- While it is the only byte, a message is held if there is no reason against it.
@@ -75,7 +76,7 @@ pub record Opened (es : Log) (t : Talk) (p : Phase) (named : ℕ) : Type 0 where
   pub kind : byte .kind ≡ Byte
   pub number : numberAfter (takenOf before) byte ≡ taken
   pub index : length (heardIn before) ≡ named
-  pub session : Session ourStep (before ▷ byte) t
+  pub session : Session stepOf (before ▷ byte) t
   pub hasty : (lossReason p noReason ≡ early) ↔ Early t (gapBefore (takenOf before) byte) byte
   pub astray : (lossReason p noReason ≡ stray) ↔ Stray t (gapBefore (takenOf before) byte) byte
   pub fresh : length (heardIn es) ≡ named + 1
@@ -92,7 +93,7 @@ pub record At (es : Log) (t : Talk) (p : Phase) (named heard : ℕ) : Type 0 whe
 
 -- an event that is no byte heard, and leaves a message open, changes nothing of this
 abbrev pub SpeaksOn : Log → Event → Talk → Type 0
-SpeaksOn es e t = (b : Event) (bytes : List ℕ) → Speaks ourStep t b es bytes → Speaks ourStep t b (es ▷ e) bytes
+SpeaksOn es e t = (b : Event) (bytes : List ℕ) → Speaks stepOf t b es bytes → Speaks stepOf t b (es ▷ e) bytes
 
 module _ (es : Log) (e : Event) (t : Talk) (p : Phase) (named : ℕ) (same : heardIn (es ▷ e) ≡ heardIn es) where
   holds-more : (b : Event) → SpeaksOn es e t → Holds es t b p named → Holds (es ▷ e) t b p named
@@ -150,8 +151,8 @@ never-starting Damage c s = false≢true s
 -- a report of the event e behind es, in a session with these key bytes and these frames; `all` are the event's reports
 pub record Tells (es : Log) (e : Event) (kb1 kb2 : ℕ) (fs : Frames) (all : List Report) (x : Report) : Type 0 where
   pub reads : x .number ≡ frameReport → readOf kb1 kb2 (namedBy (heardIn (es ▷ e)) x) .no ≡ taken
-  pub spoken : x .number ≡ frameReport → EndsInFrame ourStep es e (namedBy (heardIn (es ▷ e)) x)
-  pub turns : (x .number ≡ frameReport) ⊎ (x .number ≡ damageReport) → Turns ourStep (es ▷ e) x
+  pub spoken : x .number ≡ frameReport → EndsInFrame stepOf es e (namedBy (heardIn (es ▷ e)) x)
+  pub turns : (x .number ≡ frameReport) ⊎ (x .number ≡ damageReport) → Turns stepOf (es ▷ e) x
   pub answers : x .number ≡ downReport → x .reason ≡ stopped → Answers kb1 kb2 fs (e .side) (heardIn (es ▷ e)) all
   pub stops : x .number ≡ frameReport → e .side ≡ Unit → stops (pendingIn kb1 kb2 fs) (dataOf kb1 kb2 (namedBy (heardIn (es ▷ e)) x)) ≡ true
       → Stopped all
@@ -215,7 +216,7 @@ module _ (es : Log) (e : Event) (all : List Report) where
   -- a report that names what is open from its first byte on
   pub turned : (t : Talk) (p : Phase) (named : ℕ) (x : Report) → Opened es t p named → x .first ≡ named
       → (((x .number ≡ damageReport) × (x .reason ≡ early)) ↔ (lossReason p noReason ≡ early))
-      → (((x .number ≡ damageReport) × (x .reason ≡ stray)) ↔ (lossReason p noReason ≡ stray)) → Turns ourStep (es ▷ e) x
+      → (((x .number ≡ damageReport) × (x .reason ≡ stray)) ↔ (lossReason p noReason ≡ stray)) → Turns stepOf (es ▷ e) x
   turned t p named x o n f g = record {
     first = record {
       before = o .before;

@@ -46,8 +46,9 @@ use Rattle.reports.specs.declared.Report.{Report}
 use Rattle.reports.specs.declared.Run.{Run}
 use Rattle.link.specs.Handling.{hearing, byteHeard}
 use Rattle.link.proofs.Three.{tells, byteTells}
+use Rattle.link.specs.Stepping.{stepOf}
 use Rattle.demands.specs.Logs.{Log, _▷_, markOf, heardIn, numberAfter, takenOf, whole, more}
-use Rattle.demands.specs.Histories.{ourStep, after, isAmong, Among, first, later}
+use Rattle.demands.specs.Histories.{after, isAmong, Among, first, later}
 use Rattle.demands.specs.Accounts.{namedBy}
 use Rattle.demands.specs.Sessions.{Frame, Frames, _▸_, stops, resets, retimes, codesIn, pendingIn, windowsIn, Talk, afterReport}
 use Rattle.demands.specs.Sessions.{talkAfter, Session, inForce, gapBefore, Stray, Early}
@@ -158,7 +159,7 @@ module _ (es : Log) (e : Event) (all : List Report) (kind : e .kind ≡ Byte) (n
 
   -- a byte that makes no report
   silent-byte : (t : Talk) (r : Run) (q : Phase) → isQuiet (q .state) ≡ false
-      → (Session ourStep (es ▷ e) t → after ourStep (es ▷ e) .link .named ≡ r .named → At (es ▷ e) t q (r .named) (countSum (r .heard) 1))
+      → (Session stepOf (es ▷ e) t → after stepOf (es ▷ e) .link .named ≡ r .named → At (es ▷ e) t q (r .named) (countSum (r .heard) 1))
       → Heard t r (still q)
   unfolding tells moved afterStop isAmong talkAfter
   silent-byte t r q n f _ =
@@ -167,8 +168,8 @@ module _ (es : Log) (e : Event) (all : List Report) (kind : e .kind ≡ Byte) (n
       (λ c. absurd (false≢true (sym n ∙ and-split (isQuiet (q .state)) _ c .0))) (λ _. still-up refl (each-none (Told es e all t)) f)
 
   -- ---- the first byte of a message
-  module _ (t : Talk) (p : Phase) (named heard : ℕ) (a : At es t p named heard) (quiet : isQuiet (p .state) ≡ true) (s : Session ourStep (es ▷ e) t)
-      (last : after ourStep (es ▷ e) .link .named ≡ named) where
+  module _ (t : Talk) (p : Phase) (named heard : ℕ) (a : At es t p named heard) (quiet : isQuiet (p .state) ≡ true) (s : Session stepOf (es ▷ e) t)
+      (last : after stepOf (es ▷ e) .link .named ≡ named) where
     abbrev reason : ℕ
     reason = reasonAtFirst p (e .side) (e .value) (gapOf mark (e .start))
 
@@ -363,7 +364,7 @@ module _ (es : Log) (e : Event) (all : List Report) (kind : e .kind ≡ Byte) (n
         ∙ gone-ends side (begun side (held .head)) (r .phase .message) (held .rest) [] (held .gone) in
         false≢true (sym (rw (right-head) k) ∙ m)
 
-    speaks-on : wrong ≡ noReason → Speaks ourStep t (o .byte) (es ▷ e) slice
+    speaks-on : wrong ≡ noReason → Speaks stepOf t (o .byte) (es ▷ e) slice
     speaks-on w = grows (held .spoken) not-yet number kind (side-is w) near
 
     later-held : wrong ≡ noReason → isSum (r .phase .message .part) ≡ false
@@ -491,7 +492,7 @@ module _ (es : Log) (e : Event) (all : List Report) (kind : e .kind ≡ Byte) (n
             spoken = λ _. record {
               talk = t;
               first = o .byte;
-              message = subst (Speaks ourStep t (o .byte) (es ▷ e)) (sym names) (speaks-on w);
+              message = subst (Speaks stepOf t (o .byte) (es ▷ e)) (sym names) (speaks-on w);
               kind = kind;
               number = number;
               read = reads;

@@ -26,7 +26,7 @@ use Rattle.link.specs.Stepping.{numberOf, refusedBy, takenBy, answerOf, countsA
 use Rattle.link.specs.declared.Link.{Link}
 use Rattle.link.proofs.Three.{three-enough}
 use Rattle.demands.specs.Logs.{Log, none, _▷_, clockOf, markOf, countOf, heardOf, numberAfter, takenOf}
-use Rattle.demands.specs.Histories.{ourStep, Host, after, reportsOf}
+use Rattle.demands.specs.Histories.{Host, after, reportsOf}
 use Rattle.demands.specs.Accounts.{countsOf, bytesIn, reportsIn}
 use Rattle.demands.proofs.Numbering.{Small, small-full, log-numbered}
 use Rattle.demands.proofs.Holding.{Holds, holds-order}
@@ -144,7 +144,7 @@ kept-taken h log xs e k q =
 
 -- ---- from a fresh link with zero counts, event by event
 abbrev pub KeptOf : Log → Type 0
-KeptOf es = Kept (after ourStep es) (takenOf es) (reportsOf ourStep es)
+KeptOf es = Kept (after stepOf es) (takenOf es) (reportsOf stepOf es)
 
 fresh-kept : KeptOf none
 unfolding after takenOf reportsOf freshLink zeroCounts clockOf markOf countOf heardOf countsOf bytesIn reportsIn down
@@ -182,18 +182,18 @@ module _ (l : Link) (c : Counts) (e : Event) where
 kept-by : (b : Bool) (es : Log) (e : Event) → eqb (numberAfter (takenOf es) e) taken ≡ b → KeptOf es → KeptOf (es ▷ e)
 unfolding after takenOf reportsOf stepOf takenBy refusedBy countsAfter listed
 kept-by true es e q k =
-    let l = after ourStep es .link in
-    let c = after ourStep es .counts in
-    let n = number-is (after ourStep es) (takenOf es) (reportsOf ourStep es) e k in
+    let l = after stepOf es .link in
+    let c = after stepOf es .counts in
+    let n = number-is (after stepOf es) (takenOf es) (reportsOf stepOf es) e k in
     let p : eqb (numberOf l c e) taken ≡ true = rw n q in
     rw (q, taken-answer l c e p)
-    (kept-taken (after ourStep es) (takenOf es) (reportsOf ourStep es) e k (eqb-true (numberAfter (takenOf es) e) taken q))
+    (kept-taken (after stepOf es) (takenOf es) (reportsOf stepOf es) e k (eqb-true (numberAfter (takenOf es) e) taken q))
 kept-by false es e q k =
-    let l = after ourStep es .link in
-    let c = after ourStep es .counts in
-    let n = number-is (after ourStep es) (takenOf es) (reportsOf ourStep es) e k in
+    let l = after stepOf es .link in
+    let c = after stepOf es .counts in
+    let n = number-is (after stepOf es) (takenOf es) (reportsOf stepOf es) e k in
     let p : eqb (numberOf l c e) taken ≡ false = rw n q in
-    rw (q, refused-answer l c e p, p, append-nil (reportsOf ourStep es)) k
+    rw (q, refused-answer l c e p, p, append-nil (reportsOf stepOf es)) k
 
 pub kept-of : (es : Log) → KeptOf es
 kept-of none = fresh-kept

@@ -17,8 +17,9 @@ use Rattle.events.specs.Events.{isByte}
 use Rattle.events.specs.declared.Kind.{Kind}
 use Rattle.events.specs.declared.Kind.the-variants.{Byte}
 use Rattle.events.specs.declared.Event.{Event}
+use Rattle.link.specs.Stepping.{stepOf}
 use Rattle.demands.specs.Logs.{Log, none, _▷_, heardOf, heardIn, numberAfter, takenOf, InBytes, Begins, whole, more}
-use Rattle.demands.specs.Histories.{ourStep, after, reportsOf}
+use Rattle.demands.specs.Histories.{after, reportsOf}
 use Rattle.demands.specs.Accounts.{allNamed}
 use Rattle.demands.proofs.Kept.{kept-of}
 use Rattle.demands.proofs.Basics.{basics}
@@ -80,22 +81,22 @@ begins-longer {front = front} (more {es = es} {e = e} b) =
     (λ _. omega (arith, length-append (heardIn es) (if isByte (e .kind) then e .value ∷ [] else []))) (λ _. x)
 
 -- ---- and reports name them
-named-is : (es : Log) → allNamed (heardIn es) (reportsOf ourStep es) ≡ take (after ourStep es .link .named) (heardIn es)
+named-is : (es : Log) → allNamed (heardIn es) (reportsOf stepOf es) ≡ take (after stepOf es .link .named) (heardIn es)
 named-is es =
-    let n = after ourStep es .link .named in
+    let n = after stepOf es .link .named in
     tiled-names (heardIn es) (kept-of es .tiled) ∙ ap (λ (k : ℕ). take k (heardIn es)) (sub-zero n)
 
 -- all but the last byte are named exactly if the link's index is that of the last byte
-pub alone-is : (es : Log) (e : Event) → heardIn (es ▷ e) ≡ heardIn es ++ (e .value ∷ []) → length (heardIn es) ≡ after ourStep (es ▷ e) .link .named
-    → allNamed (heardIn (es ▷ e)) (reportsOf ourStep (es ▷ e)) ≡ heardIn es
+pub alone-is : (es : Log) (e : Event) → heardIn (es ▷ e) ≡ heardIn es ++ (e .value ∷ []) → length (heardIn es) ≡ after stepOf (es ▷ e) .link .named
+    → allNamed (heardIn (es ▷ e)) (reportsOf stepOf (es ▷ e)) ≡ heardIn es
 alone-is es e q n =
-    let k = after ourStep (es ▷ e) .link .named in
+    let k = after stepOf (es ▷ e) .link .named in
     named-is (es ▷ e) ∙ ap (take k) q ∙ take-at (heardIn es) (e .value ∷ []) k n
 
-pub alone-named : (es : Log) (e : Event) → allNamed (heardIn (es ▷ e)) (reportsOf ourStep (es ▷ e)) ≡ heardIn es
-    → after ourStep (es ▷ e) .link .named ≡ length (heardIn es)
+pub alone-named : (es : Log) (e : Event) → allNamed (heardIn (es ▷ e)) (reportsOf stepOf (es ▷ e)) ≡ heardIn es
+    → after stepOf (es ▷ e) .link .named ≡ length (heardIn es)
 alone-named es e q =
     let b = basics (es ▷ e) in
-    let k = after ourStep (es ▷ e) .link .named in
+    let k = after stepOf (es ▷ e) .link .named in
     let h : k ≤ length (heardIn (es ▷ e)) = omega (arith, b .named, b .heard) in
     sym (length-take-le k (heardIn (es ▷ e)) h) ∙ ap length (sym (named-is (es ▷ e)) ∙ q)

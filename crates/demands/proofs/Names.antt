@@ -29,11 +29,11 @@ use Rattle.reports.specs.Reporting.{namesBytes, reportOf, appended, listed, tol
 use Rattle.reports.specs.declared.Report.{Report}
 use Rattle.reports.specs.declared.Run.{Run}
 use Rattle.link.specs.Handling.{passed, hearing, begun, handled, linkAfter}
-use Rattle.link.specs.Stepping.{takenBy}
+use Rattle.link.specs.Stepping.{takenBy, stepOf}
 use Rattle.link.specs.declared.Link.{Link}
 use Rattle.link.specs.declared.Answer.{Answer}
 use Rattle.demands.specs.Logs.{Log, none, _▷_, markOf, heardOf, numberAfter, takenOf}
-use Rattle.demands.specs.Histories.{ourStep, after, answerTo}
+use Rattle.demands.specs.Histories.{after, answerTo}
 use Rattle.demands.specs.Connecting.{Since, here, tick, byte, Connects}
 use Rattle.demands.proofs.Holding.{Holds}
 use Rattle.demands.proofs.Tiling.{passed-heard, shut-heard, passed-flows, shut-none, sum-is}
@@ -96,15 +96,15 @@ told-on : (l : Link) (log : Log) (e : Event) → Behind l log e → Inv l log �
 unfolding linkAfter
 told-on l log e t inv h g n = told-by l log e t inv h g n
 
-told-next : (b : Bool) (es : Log) (e : Event) → eqb (numberAfter (takenOf es) e) taken ≡ b → Told (after ourStep es .link) (takenOf es)
-    → Told (after ourStep (es ▷ e) .link) (takenOf (es ▷ e))
+told-next : (b : Bool) (es : Log) (e : Event) → eqb (numberAfter (takenOf es) e) taken ≡ b → Told (after stepOf es .link) (takenOf es)
+    → Told (after stepOf (es ▷ e) .link) (takenOf (es ▷ e))
 told-next true es e q n =
     let t = eqb-true _ _ q in
     rw (link-taken es e t, log-taken es e t)
-    (told-on (after ourStep es .link) (takenOf es) e (behind es e t) (inv-of es) (basics es .heard) (kept-of es .holds) n)
+    (told-on (after stepOf es .link) (takenOf es) e (behind es e t) (inv-of es) (basics es .heard) (kept-of es .holds) n)
 told-next false es e q n = rw (link-refused es e (eqb-false _ _ q), log-refused es e q) n
 
-told-of : (es : Log) → Told (after ourStep es .link) (takenOf es)
+told-of : (es : Log) → Told (after stepOf es .link) (takenOf es)
 unfolding takenOf
 told-of none = λ a before bs s. absurd (no-since a before bs s)
 told-of (es ▷ e) = told-next (eqb (numberAfter (takenOf es) e) taken) es e refl (told-of es)
@@ -165,9 +165,9 @@ handled-names l log e t inv h few n c =
 
 -- THE THEOREM
 pub connects-names : (es : Log) (e : Event) → numberAfter (takenOf es) e ≡ taken → (c : Connects (takenOf es) e)
-    → Connected (takenOf es) e c (answerTo ourStep es e)
+    → Connected (takenOf es) e c (answerTo stepOf es e)
 connects-names es e q c =
-    let l = after ourStep es .link in
+    let l = after stepOf es .link in
     let b = basics es in
     let few : l .heard < 4_000_000_000 = omega (arith, b .heard, b .few, timely (takenOf es) e q .room) in
     subst (Connected (takenOf es) e c) (sym (answer-taken es e q))

@@ -7,8 +7,9 @@ use Rattle.text.specs.Text.{headText, endText}
 use Rattle.listing.specs.Listing.{freshLister, answerText, stepped, saidOf, heldOf, listingOf}
 use Rattle.listing.specs.declared.Lister.{Lister}
 use Rattle.listing.proofs.ByLines.{linesOf, listedBy, listing-by-lines}
+use Rattle.link.specs.Stepping.{stepOf}
 use Rattle.demands.specs.Logs.{Log, none, _▷_}
-use Rattle.demands.specs.Histories.{Step, ourStep, after, answerTo}
+use Rattle.demands.specs.Histories.{Step, after, answerTo}
 
 -- ---- the history of an input: one event for each of its lines, in order. A line that can't be read gives an event of no kind, which is refused.
 unfoldable pub historyBy : Log → List (List ℕ) → Log
@@ -25,18 +26,18 @@ saidFor step (es ▷ e) = saidFor step es ++ answerText (answerTo step es e)
 
 -- ---- a lister behind events
 abbrev listerAfter : Log → Lister
-listerAfter es = record { link = after ourStep es .link; counts = after ourStep es .counts; reading = freshReading }
+listerAfter es = record { link = after stepOf es .link; counts = after stepOf es .counts; reading = freshReading }
 
 lister-on : (ls : List (List ℕ)) (es : Log) → listedBy (listerAfter es) ls .lister ≡ listerAfter (historyBy es ls)
 unfolding listedBy historyBy stepped after
 lister-on [] es = refl
 lister-on (l ∷ ls) es = lister-on ls (es ▷ lineOf l)
 
-said-on : (ls : List (List ℕ)) (es : Log) → saidFor ourStep es ++ listedBy (listerAfter es) ls .said ≡ saidFor ourStep (historyBy es ls)
+said-on : (ls : List (List ℕ)) (es : Log) → saidFor stepOf es ++ listedBy (listerAfter es) ls .said ≡ saidFor stepOf (historyBy es ls)
 unfolding listedBy historyBy stepped after saidFor saidOf
-said-on [] es = append-nil (saidFor ourStep es)
+said-on [] es = append-nil (saidFor stepOf es)
 said-on (l ∷ ls) es =
-    sym (append-assoc (saidFor ourStep es) (saidOf (listerAfter es) (lineOf l)) (listedBy (listerAfter (es ▷ lineOf l)) ls .said))
+    sym (append-assoc (saidFor stepOf es) (saidOf (listerAfter es) (lineOf l)) (listedBy (listerAfter (es ▷ lineOf l)) ls .said))
     ∙ said-on ls (es ▷ lineOf l)
 
 fresh-is : freshLister ≡ listerAfter none
@@ -46,11 +47,11 @@ fresh-is = refl
 -- THE LISTING OF ANY INPUT is the header, what is written for the events of its lines, and the end line of the counts and the bytes held after them.
 pub listing-history : (input : List ℕ)
     → listingOf input
-    ≡ headText ++ (saidFor ourStep (historyOf input) ++ endText (after ourStep (historyOf input) .counts) (heldOf (after ourStep (historyOf input) .link)))
+    ≡ headText ++ (saidFor stepOf (historyOf input) ++ endText (after stepOf (historyOf input) .counts) (heldOf (after stepOf (historyOf input) .link)))
 unfolding saidFor
 listing-history input =
     let ls = linesOf input in
     listing-by-lines input
     ∙ ap (λ (x : Lister). headText ++ (listedBy x ls .said ++ endText (listedBy x ls .lister .counts) (heldOf (listedBy x ls .lister .link)))) fresh-is
     ∙ ap (λ (y : Lister). headText ++ (listedBy (listerAfter none) ls .said ++ endText (y .counts) (heldOf (y .link)))) (lister-on ls none)
-    ∙ ap (λ (w : List ℕ). headText ++ (w ++ endText (after ourStep (historyOf input) .counts) (heldOf (after ourStep (historyOf input) .link)))) (said-on ls none)
+    ∙ ap (λ (w : List ℕ). headText ++ (w ++ endText (after stepOf (historyOf input) .counts) (heldOf (after stepOf (historyOf input) .link)))) (said-on ls none)

@@ -43,7 +43,7 @@ use Rattle.link.specs.Stepping.{numberOf, refusedBy, takenBy, answerOf, countsA
 use Rattle.demands.specs.Logs.{Log, none, _▷_, heardOf, countOf, clockOf, numberAfter, takenOf, heardIn}
 use Rattle.link.specs.declared.Link.{Link}
 use Rattle.demands.specs.Refusals.{Above, Numbered}
-use Rattle.demands.specs.Histories.{Step, after, reportsTo, reportsOf, isAmong, Says}
+use Rattle.demands.specs.Histories.{Step, ourStep, after, reportsTo, reportsOf, isAmong, Says}
 use Rattle.demands.specs.Connecting.{Connects}
 use Rattle.demands.specs.Accounts.{InTurn, end, then, reportsIn, countsOf, Accounted}
 use Rattle.demands.proofs.Example.{byteFrom, fastEvents, fastLast, fast-connects, fast-number}
@@ -99,12 +99,13 @@ record Unfair : Type 0 where
   of-inventing : fair inventing (none ▷ tick) ≡ false
   of-behind : fair behind retiming ≡ false
   of-twice : fair twice retiming ≡ false
-  -- and the right one, of the same events
-  not-ours : fair stepOf retiming ≡ true
+  -- and of our own step, by which the gate's edits of it (must-fail/) are seen refused first
+  ours-fair : fair ourStep retiming ≡ true
+  ours-connects : isAmong connectedReport (reportsTo ourStep fastEvents fastLast) ≡ true
 
 unfair : Unfair
 unfolding
-    after reportsOf listed reportsIn takenOf numberAfter clockOf countOf heardOf stepOf answerOf countsAfter numberOf takenBy refusedBy refusal isUnknown isOther isByte isNobody
+    after reportsOf isAmong listed reportsIn takenOf numberAfter clockOf countOf heardOf stepOf answerOf countsAfter numberOf takenBy refusedBy refusal isUnknown isOther isByte isNobody
     isTooLate isOutOfOrder isFull handled acted begun passed shut byteHeard linkAfter markAfter freshLink zeroCounts countedEvent countedByte countedAll
     countedOne moved told reportOf appended namesBytes afterSilence afterP2 afterP3 afterWindow afterByte afterStop startByte startingFast startingSlow
     isIdle isGoodLow closing leaving isOpen isQuiet isHeld isStarting isSilent sinceOrigin originOf roleAt isOpening isPairOne isPairTwo isRequestEnd
@@ -114,7 +115,7 @@ unfolding
     formatForm placeAnnounced hasExtra begunMessage partAfterFormat afterAddresses laterReason isSum grown withData withSeven afterData holding talking
     framed asked answered timed settled damaged requestOf isExactly asksCodes windowsAfter isEffective windowsFor codesIn ifAllowed decodedOf isAllowed
     windowsBy minOf p2MaxOf p2Half p3MaxOf isBelow spent requestAfter sameWindows
-unfair = record { of-unchanged = refl; of-idling = refl; of-inventing = refl; of-behind = refl; of-twice = refl; not-ours = refl }
+unfair = record { of-unchanged = refl; of-idling = refl; of-inventing = refl; of-behind = refl; of-twice = refl; ours-fair = refl; ours-connects = refl }
 
 -- ---- DEMAND 3 SHUTS OUT ..
 abbrev pub DemandThree : Step → Type 0

@@ -10,8 +10,9 @@ use Rattle.events.specs.declared.Side.{Side}
 use Rattle.events.specs.declared.Side.the-variants.{Unit}
 use Rattle.events.specs.declared.Event.{Event}
 use Rattle.reports.specs.declared.Report.{Report}
+use Rattle.link.specs.Stepping.{stepOf}
 use Rattle.demands.specs.Logs.{Log, _▷_, heardIn}
-use Rattle.demands.specs.Histories.{ourStep, reportsTo, Among}
+use Rattle.demands.specs.Histories.{reportsTo, Among}
 use Rattle.demands.specs.Accounts.{namedBy}
 use Rattle.demands.specs.Sessions.{Frames, stops, pendingIn, Talk}
 
@@ -33,4 +34,4 @@ pub record Answers (kb1 kb2 : ℕ) (fs : Frames) (side : Side) (heard : List ℕ
 
 -- in the session t, behind es, the event e is reported as such a frame
 abbrev pub AnswersStop : Talk → Log → Event → Type 0
-AnswersStop t es e = Answers (t .kb1) (t .kb2) (t .frames) (e .side) (heardIn (es ▷ e)) (reportsTo ourStep es e)
+AnswersStop t es e = Answers (t .kb1) (t .kb2) (t .frames) (e .side) (heardIn (es ▷ e)) (reportsTo stepOf es e)

@@ -11,8 +11,9 @@ use Rattle.events.specs.declared.Event.{Event}
 use Rattle.phases.specs.Phases.{isConnected}
 use Rattle.reports.specs.declared.Report.{Report}
 use Rattle.reports.specs.declared.Run.{Run}
+use Rattle.link.specs.Stepping.{stepOf}
 use Rattle.demands.specs.Logs.{Log, _▷_, heardIn, InBytes}
-use Rattle.demands.specs.Histories.{ourStep, after, reportsTo, Among}
+use Rattle.demands.specs.Histories.{after, reportsTo, Among}
 use Rattle.demands.specs.Accounts.{namedBy}
 use Rattle.demands.specs.Sessions.{Talk, Session, Reads, Turns}
 use Rattle.demands.specs.Messages.{EndsInFrame}
@@ -29,45 +30,45 @@ each-told es e all t rs r (still-up n f a) = f
 each-told es e all t rs r (over n f c) = f
 
 -- in a session
-told-in : (es : Log) (e : Event) (t : Talk) → InBytes (es ▷ e) → Session ourStep es t
-    → Each (Told es e (reportsTo ourStep es e) t) (reportsTo ourStep es e)
+told-in : (es : Log) (e : Event) (t : Talk) → InBytes (es ▷ e) → Session stepOf es t
+    → Each (Told es e (reportsTo stepOf es e) t) (reportsTo stepOf es e)
 unfolding InBytes
-told-in es e t b s = each-told es e (reportsTo ourStep es e) t (reportsTo ourStep es e) _ (event-ends es e t b (session-at (b .0) s))
+told-in es e t b s = each-told es e (reportsTo stepOf es e) t (reportsTo stepOf es e) _ (event-ends es e t b (session-at (b .0) s))
 
 -- a report 1 or 2 comes in a session
-comes-in : (es : Log) (e : Event) (r : Report) → InBytes (es ▷ e) → Among r (reportsTo ourStep es e)
+comes-in : (es : Log) (e : Event) (r : Report) → InBytes (es ▷ e) → Among r (reportsTo stepOf es e)
     → (r .number ≡ frameReport) ⊎ (r .number ≡ damageReport) → SomeSession es
 unfolding InBytes
-comes-in es e r b i n = by-state (isConnected (after ourStep es .link .phase .state)) refl
+comes-in es e r b i n = by-state (isConnected (after stepOf es .link .phase .state)) refl
   where
-    by-state : (c : Bool) → isConnected (after ourStep es .link .phase .state) ≡ c → SomeSession es
+    by-state : (c : Bool) → isConnected (after stepOf es .link .phase .state) ≡ c → SomeSession es
     by-state true c = session-exactly es (b .0) .0 c
     by-state false c = let x = none-unconnected es e c r i in absurd (⊎-elim (x .0) (x .1) n)
 
 -- A FRAME IS ONE THAT `read` TAKES
-pub frames-read : (es : Log) (e : Event) (r : Report) → InBytes (es ▷ e) → Among r (reportsTo ourStep es e) → r .number ≡ frameReport
-    → Reads ourStep es e r
+pub frames-read : (es : Log) (e : Event) (r : Report) → InBytes (es ▷ e) → Among r (reportsTo stepOf es e) → r .number ≡ frameReport
+    → Reads stepOf es e r
 frames-read es e r b i n =
     let x = comes-in es e r b i (inl n) in
     record { talk = x .talk; session = x .session; reads = told-in es e (x .talk) b (x .session) r i .reads n }
 
 -- and it ends a message of the history (its converse is in `Speaking`)
-pub frames-end : (es : Log) (e : Event) (r : Report) → InBytes (es ▷ e) → Among r (reportsTo ourStep es e) → r .number ≡ frameReport
-    → EndsInFrame ourStep es e (namedBy (heardIn (es ▷ e)) r)
+pub frames-end : (es : Log) (e : Event) (r : Report) → InBytes (es ▷ e) → Among r (reportsTo stepOf es e) → r .number ≡ frameReport
+    → EndsInFrame stepOf es e (namedBy (heardIn (es ▷ e)) r)
 frames-end es e r b i n =
     let x = comes-in es e r b i (inl n) in
     told-in es e (x .talk) b (x .session) r i .spoken n
 
 -- A MESSAGE'S FIRST BYTE WAS EARLY OR STRAY exactly if its report says so
-pub turns-exactly : (es : Log) (e : Event) (r : Report) → InBytes (es ▷ e) → Among r (reportsTo ourStep es e)
-    → (r .number ≡ frameReport) ⊎ (r .number ≡ damageReport) → Turns ourStep (es ▷ e) r
+pub turns-exactly : (es : Log) (e : Event) (r : Report) → InBytes (es ▷ e) → Among r (reportsTo stepOf es e)
+    → (r .number ≡ frameReport) ⊎ (r .number ≡ damageReport) → Turns stepOf (es ▷ e) r
 turns-exactly es e r b i n =
     let x = comes-in es e r b i n in
     told-in es e (x .talk) b (x .session) r i .turns n
 
 -- THE LINK IS STOPPED exactly by a unit frame that answers a stop
-pub stops-exactly : (es : Log) (e : Event) (t : Talk) → InBytes (es ▷ e) → Session ourStep es t
-    → Stopped (reportsTo ourStep es e) ↔ AnswersStop t es e
+pub stops-exactly : (es : Log) (e : Event) (t : Talk) → InBytes (es ▷ e) → Session stepOf es t
+    → Stopped (reportsTo stepOf es e) ↔ AnswersStop t es e
 stops-exactly es e t b s = (
   λ x. told-in es e t b s (x .report) (x .made) .answers (x .number) (x .reason),
   λ x. told-in es e t b s (x .report) (x .made) .stops (x .number) (x .unit) (x .stop),
