@@ -26,6 +26,7 @@ use Rattle.demands.specs.Histories.{ourStep, after, answerTo, reportsOf}
 use Rattle.demands.proofs.Numbering.{zero-small, small-not-above, number-numbered, log-numbered}
 use Rattle.demands.proofs.Kept.{kept-of, kept-small, refused-answer, number-answered}
 use Rattle.demands.proofs.Basics as basics
+use Rattle.demands.proofs.Computed.{retiming, computed}
 
 -- THE NUMBER OF AN EVENT, for any link, any counts, any event: 1, 2, 3 or 4 exactly when its condition holds and that of no smaller number does, and
 -- 0 exactly when none of the four holds. There is no other number.
@@ -61,6 +62,10 @@ someEvent = record { start = micros 0; end = micros 960; kind = Byte; side = Tes
 pub some-event-taken : ourStep freshLink zeroCounts someEvent .answer .no ≡ 0
 unfolding stepOf numberOf refusal isUnknown isOther isByte isNobody isTooLate isOutOfOrder isFull freshLink zeroCounts
 some-event-taken = number-answered freshLink zeroCounts someEvent
+
+-- And all 26 of these: document 01's example, a request for new timing, and its reply.
+pub example-taken : after ourStep retiming .link .taken ≡ 26
+example-taken = computed .ours-taken
 
 -- THE NUMBERS OF A HISTORY, behind any events from a fresh link with zero counts that only the link changes: the number of the next event is the one
 -- that the events taken before it give, ..

@@ -13,8 +13,8 @@ use Rattle.demands.specs.Accounts.{namedBy, allNamed, InTurn}
 use Rattle.demands.proofs.Tiling.{Tiled, end, next}
 
 pub tiled-turns : {n m : ℕ} {xs : List Report} → Tiled n xs m → InTurn n xs
-tiled-turns end = InTurn.end
-tiled-turns (next e f t) = InTurn.then e (tiled-turns t)
+tiled-turns end = InTurn.none
+tiled-turns (next e f t) = InTurn.behind e (tiled-turns t)
 
 pub tiled-order : {n m : ℕ} {xs : List Report} → Tiled n xs m → n ≤ m
 tiled-order end = omega arith

@@ -30,8 +30,8 @@ lastOf n heard = drop (length heard - n) heard
 
 -- each report's first index is the number of bytes named before it, n of them before the first report
 pub data InTurn : ℕ → List Report → Type 0 where
-  end : {n : ℕ} → InTurn n []
-  then : {n : ℕ} {r : Report} {rs : List Report} → r .first ≡ n → InTurn (n + r .bytes) rs → InTurn n (r ∷ rs)
+  none : {n : ℕ} → InTurn n []
+  behind : {n : ℕ} {r : Report} {rs : List Report} → r .first ≡ n → InTurn (n + r .bytes) rs → InTurn n (r ∷ rs)
 
 -- "Counts: bytes heard, bytes in reports 1, 2, 3 with 4, and 5; reports 1; reports 2."
 unfoldable pub bytesIn : ℕ → List Report → ℕ
