@@ -6,3 +6,4 @@ pub mod Starts
 pub mod Connecting
 pub mod Sessions
 pub mod Accounts
+pub mod Endings
