@@ -1,15 +1,13 @@
 -- An event acts, on any link: which reports it makes as it closes what is open, as it starts an initialization and as its byte is heard. Assumes nothing.
 use Prim.Native.Nat.{ℕ, _<_}
 use mathlib.Core.Bool.{Bool, true, false, not, _&&_, false≢true}
-use mathlib.Core.List.{_++_}
-use mathlib.Core.Path.{_≡_, refl, sym, ap, _∙_, subst}
+use mathlib.Core.Path.{_≡_, refl, sym, ap, _∙_}
 use native.Mathlib.Omega.{arith}
 use borrow.Author.Tests.{not-true, not-false}
 use lib.Dec.{eqb}
-use Rattle.base.specs.Choice.{if_then_else_}
 use Rattle.base.specs.Reports.{frameReport, damageReport, connectedReport, failedReport, outsideReport, downReport, notIdleReport}
 use Rattle.base.specs.Reports.{noReason, closed, wrongLow, wrongSide, tooEarly, misfit, stopped}
-use Rattle.base.proofs.Tests.{and-split, by-test}
+use Rattle.base.proofs.Tests.{by-test}
 use Rattle.units.specs.Units.{micros, gapOf}
 use Rattle.units.specs.declared.Micros.{Micros}
 use Rattle.events.specs.declared.Side.{Side}
@@ -150,12 +148,16 @@ judged-above p side v gap =
     (λ _. by-test (λ (k : ℕ). not (eqb k noReason) ≡ true → wrongLow < k) (isEarly (p .start) gap) {x = tooEarly} (λ _ _. omega arith)
     (λ _. by-test (λ (k : ℕ). not (eqb k noReason) ≡ true → wrongLow < k) (fits (p .start) v) {x = noReason} {y = misfit} (λ _ z. absurd (false≢true z)) (λ _ _. omega arith)))
 
-module _ (C : ℕ → ℕ → Type 0) (frames : (k : ℕ) → C frameReport k) (connects : C connectedReport noReason) (wrongs : (k : ℕ) → wrongLow < k → C failedReport k) where
-  start-makes : (p : Phase) (side : Side) (v : ℕ) (gap : Micros) → Makes C (startByte p side v gap)
+-- a byte of an initialization that it fails
+abbrev pub Misses : Phase → Side → ℕ → Micros → Type 0
+Misses p side v gap = wrongLow < judged (p .start) side v gap
+
+module _ (C : ℕ → ℕ → Type 0) (frames : (k : ℕ) → C frameReport k) (connects : C connectedReport noReason) where
+  start-makes : (p : Phase) (side : Side) (v : ℕ) (gap : Micros) → (Misses p side v gap → C failedReport (judged (p .start) side v gap)) → Makes C (startByte p side v gap)
   unfolding startByte
-  start-makes p side v gap =
+  start-makes p side v gap w =
       by-test (Makes C) (not (eqb (judged (p .start) side v gap) noReason)) {x = makes failedReport (judged (p .start) side v gap) down}
-      (λ t _. wrongs (judged (p .start) side v gap) (judged-above p side v gap t))
+      (λ t _. w (judged-above p side v gap t))
       (λ _. by-test (Makes C) (isLast (p .start .stage)) {x = makes connectedReport noReason (connected (p .start))} {y = still (starting (p .fall) (onward (p .start) v))}
       (λ _ _. connects) (λ _. no-report C (starting (p .fall) (onward (p .start) v))))
 
@@ -167,17 +169,21 @@ module _ (C : ℕ → ℕ → Type 0) (frames : (k : ℕ) → C frameReport k) (
       (λ _. by-test (Makes C) (isSum (p .message .part)) {x = makes frameReport noReason (framed p)} {y = still (holding p (grown (p .message) v))} (λ _ _. frames noReason)
       (λ _. no-report C (holding p (grown (p .message) v))))
 
-  byte-in : (st : State) (p : Phase) (side : Side) (v : ℕ) (mark start : Micros) → p .state ≡ st → (p .state ≡ Down → C outsideReport noReason)
-      → Makes C (byteIn st p side v mark start)
-  byte-in Down p side v mark start q o = λ z. o q
-  byte-in Starting p side v mark start q o = start-makes p side v (sinceOrigin p mark start)
-  byte-in Quiet p side v mark start q o = no-report C (firstByte p side v (gapOf mark start))
-  byte-in Held p side v mark start q o = later-makes p side v
-  byte-in Damage p side v mark start q o = no-report C p
+  byte-in : (st : State) (p : Phase) (side : Side) (v : ℕ) (mark start : Micros) → p .state ≡ st
+      → (isStarting (p .state) ≡ true → Misses p side v (sinceOrigin p mark start) → C failedReport (judged (p .start) side v (sinceOrigin p mark start)))
+      → (p .state ≡ Down → C outsideReport noReason) → Makes C (byteIn st p side v mark start)
+  unfolding isStarting
+  byte-in Down p side v mark start q w o = λ _. o q
+  byte-in Starting p side v mark start q w o = start-makes p side v (sinceOrigin p mark start) (w (ap isStarting q))
+  byte-in Quiet p side v mark start q w o = no-report C (firstByte p side v (gapOf mark start))
+  byte-in Held p side v mark start q w o = later-makes p side v
+  byte-in Damage p side v mark start q w o = no-report C p
 
-  byte-makes : (p : Phase) (side : Side) (v : ℕ) (mark start : Micros) → (p .state ≡ Down → C outsideReport noReason) → Makes C (afterByte p side v mark start)
+  byte-makes : (p : Phase) (side : Side) (v : ℕ) (mark start : Micros)
+      → (isStarting (p .state) ≡ true → Misses p side v (sinceOrigin p mark start) → C failedReport (judged (p .start) side v (sinceOrigin p mark start)))
+      → (p .state ≡ Down → C outsideReport noReason) → Makes C (afterByte p side v mark start)
   unfolding afterByte
-  byte-makes p side v mark start o = byte-in (p .state) p side v mark start refl o
+  byte-makes p side v mark start w o = byte-in (p .state) p side v mark start refl w o
 
 stop-makes : (C : ℕ → ℕ → Type 0) (p : Phase) → ((isQuiet (p .state) && isStopped (p .request)) ≡ true → C downReport stopped) → Makes C (afterStop p)
 unfolding afterStop
@@ -219,14 +225,15 @@ unfolding afterByte
 stop-connected p side v mark start s = stop-in (p .state) p side v mark start s
 
 pub byte-each : (C : ℕ → ℕ → Type 0) (r : Run) (e : Event) (mark : Micros) → ((k : ℕ) → C frameReport k) → C connectedReport noReason
-    → ((k : ℕ) → wrongLow < k → C failedReport k) → (r .phase .state ≡ Down → C outsideReport noReason) → (isConnected (r .phase .state) ≡ true → C downReport stopped)
-    → EachOf C (byteTells r e mark)
+    → (isStarting (r .phase .state) ≡ true → Misses (r .phase) (e .side) (e .value) (sinceOrigin (r .phase) mark (e .start))
+    → C failedReport (judged (r .phase .start) (e .side) (e .value) (sinceOrigin (r .phase) mark (e .start))))
+    → (r .phase .state ≡ Down → C outsideReport noReason) → (isConnected (r .phase .state) ≡ true → C downReport stopped) → EachOf C (byteTells r e mark)
 unfolding byteTells
 byte-each C r e mark f c w o s =
     let m1 = afterByte (r .phase) (e .side) (e .value) mark (e .start) in
     let r1 = moved (hearing r) m1 in
     each-both (λ (x : Report). C (x .number) (x .reason)) (tells (hearing r) m1) (tells r1 (afterStop (r1 .phase)))
-    (move-each C (hearing r) m1 (byte-makes C f c w (r .phase) (e .side) (e .value) mark (e .start) o))
+    (move-each C (hearing r) m1 (byte-makes C f c (r .phase) (e .side) (e .value) mark (e .start) w o))
     (move-each C r1 (afterStop (r1 .phase))
     (stop-makes C (r1 .phase)
     (λ t. s (stop-connected (r .phase) (e .side) (e .value) mark (e .start) (sym (ap Stops (moved-phase (hearing r) m1)) ∙ t)))))

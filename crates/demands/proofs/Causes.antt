@@ -1,9 +1,8 @@
 -- Why an event that is taken makes a report other than of a frame, of damage or of success: by the phase that it finds, by the phase that passing time
 -- leaves it, and by the event.
 -- Assumes nothing.
-use Prim.Native.Nat.{ℕ, _<_}
+use Prim.Native.Nat.{ℕ}
 use mathlib.Core.Bool.{true, false, false≢true}
-use mathlib.Core.List.{_++_}
 use mathlib.Core.Path.{_≡_, refl, sym, ap, _∙_, subst}
 use mathlib.Core.Logic.{_⊎_, inl, inr}
 use native.Mathlib.Omega.{arith}
@@ -15,24 +14,26 @@ use Rattle.units.specs.declared.Micros.{Micros}
 use Rattle.events.specs.declared.Kind.{Kind}
 use Rattle.events.specs.declared.Kind.the-variants.{Address, WakeUp, Byte, Tick, Drop, Other}
 use Rattle.events.specs.declared.Event.{Event}
+use Rattle.starts.specs.Starts.{judged}
 use Rattle.phases.specs.Phases.{isStarting, isConnected, down}
 use Rattle.phases.specs.declared.State.{State}
-use Rattle.phases.specs.declared.State.the-variants.{Down, Starting, Quiet, Held, Damage}
+use Rattle.phases.specs.declared.State.the-variants.{Down}
 use Rattle.phases.specs.declared.Phase.{Phase}
-use Rattle.moves.specs.Moves.{isIdle, isGoodLow, startingSlow, startingFast}
+use Rattle.moves.specs.Moves.{sinceOrigin, isIdle, isGoodLow, startingSlow, startingFast}
 use Rattle.reports.specs.declared.Report.{Report}
 use Rattle.reports.specs.declared.Run.{Run}
-use Rattle.link.specs.Handling.{passed, shut, begun, freshLink}
+use Rattle.link.specs.Handling.{passed, shut, begun}
 use Rattle.link.specs.declared.Link.{Link}
 use Rattle.link.proofs.Three.{tells, passedTells, shutTells, actedTells, handledTells}
 use Rattle.link.proofs.Long.{Long, fresh-long, step-long}
 use Rattle.demands.specs.Logs.{Log, none, _▷_, numberAfter, takenOf}
 use Rattle.demands.specs.Histories.{ourStep, after, reportsTo, Says, Among}
 use Rattle.demands.specs.Endings.{Tells, Starter}
-use Rattle.demands.proofs.Saying.{Each, each-none, each-both}
-use Rattle.demands.proofs.Finding.{Speaks, says-speaks, tells-says, tells-left, tells-right, move-tells, EachOf, move-each, reports-made, taken-by-report}
-use Rattle.demands.proofs.Passing.{Waited, Idled, Over, starting-apart, Leaves, over, idle, up, same, passed-leaves, passed-each, waited-tells, idled-tells, over-tells}
-use Rattle.demands.proofs.Acting.{shut-each, starting-tells, connected-tells, slow-makes, slow-not-idle, fast-makes, fast-not-idle, fast-wrong-low, byte-each, byte-tells, byte-down}
+use Rattle.demands.proofs.Saying.{each-none, each-both}
+use Rattle.demands.proofs.Going.{never-starting}
+use Rattle.demands.proofs.Finding.{says-speaks, tells-says, tells-left, tells-right, move-tells, EachOf, move-each, reports-made, taken-by-report}
+use Rattle.demands.proofs.Passing.{Waited, Idled, Over, Leaves, over, idle, up, same, passed-leaves, passed-each, waited-tells, idled-tells, over-tells}
+use Rattle.demands.proofs.Acting.{Misses, shut-each, starting-tells, connected-tells, slow-makes, slow-not-idle, fast-makes, fast-not-idle, fast-wrong-low, byte-each, byte-tells, byte-down}
 
 -- A, W or D
 abbrev pub Closer : Event → Type 0
@@ -45,7 +46,8 @@ module _ (p q : Phase) (mark : Micros) (e : Event) where
     runs-out : Over p mark (e .start) → Fails windowOver
     closes : isStarting (q .state) ≡ true → Closer e → Fails closed
     low : e .kind ≡ WakeUp → isIdle mark (e .start) ≡ true → isGoodLow (e .start) (e .end) ≡ false → Fails wrongLow
-    wrong : {k : ℕ} → wrongLow < k → Fails k
+    wrong : isStarting (q .state) ≡ true → e .kind ≡ Byte → Misses q (e .side) (e .value) (sinceOrigin q mark (e .start))
+        → Fails (judged (q .start) (e .side) (e .value) (sinceOrigin q mark (e .start)))
 
   -- of a report 7
   pub data Downs : ℕ → Type 0 where
@@ -119,19 +121,19 @@ module _ (p q : Phase) (mark : Micros) (e : Event) where
   of-over (runs-out o) z = o
   of-over (closes s c) z = absurd (omega arith)
   of-over (low w i l) z = absurd (omega arith)
-  of-over (wrong h) z = absurd (omega arith)
+  of-over (wrong s b h) z = absurd (omega arith)
 
   pub of-closed : {k : ℕ} → Fails k → k ≡ closed → (isStarting (q .state) ≡ true) × Closer e
   of-closed (runs-out o) z = absurd (omega arith)
   of-closed (closes s c) z = (s, c)
   of-closed (low w i l) z = absurd (omega arith)
-  of-closed (wrong h) z = absurd (omega arith)
+  of-closed (wrong s b h) z = absurd (omega arith)
 
   pub of-low : {k : ℕ} → Fails k → k ≡ wrongLow → (e .kind ≡ WakeUp) × (isIdle mark (e .start) ≡ true) × (isGoodLow (e .start) (e .end) ≡ false)
   of-low (runs-out o) z = absurd (omega arith)
   of-low (closes s c) z = absurd (omega arith)
   of-low (low w i l) z = (w, i, l)
-  of-low (wrong h) z = absurd (omega arith)
+  of-low (wrong s b h) z = absurd (omega arith)
 
   pub of-idle : {k : ℕ} → Downs k → k ≡ idleOver → Idled p (gapOf mark (e .start))
   of-idle (stops c) z = absurd (omega arith)
@@ -172,7 +174,7 @@ module _ (p : Phase) (mark start : Micros) where
   was-connected q (same b n) c = absurd (false≢true (sym b ∙ c))
 
   pub still-connected : (q : Phase) → Leaves p mark start q → isConnected (p .state) ≡ true → (Idled p (gapOf mark start) → ⊥) → isConnected (q .state) ≡ true
-  still-connected q (over o) c n = absurd (starting-apart (p .state) (o .0) c)
+  still-connected q (over o) c n = absurd (never-starting (p .state) c (o .0))
   still-connected q (idle i) c n = absurd (n i)
   still-connected q (up m b s d) c n = d
   still-connected q (same b m) c n = absurd (false≢true (sym b ∙ c))
@@ -180,13 +182,13 @@ module _ (p : Phase) (mark start : Micros) where
   pub was-starting : (q : Phase) → Leaves p mark start q → isStarting (q .state) ≡ true → (isStarting (p .state) ≡ true) × (Over p mark start → ⊥)
   was-starting q (over o) s = absurd (false≢true (sym down-apart ∙ s))
   was-starting q (idle i) s = absurd (false≢true (sym down-apart ∙ s))
-  was-starting q (up n b x d) s = absurd (starting-apart (q .state) s d)
+  was-starting q (up n b x d) s = absurd (never-starting (q .state) d s)
   was-starting q (same b n) s = (s, n)
 
   pub still-starting : (q : Phase) → Leaves p mark start q → isStarting (p .state) ≡ true → (Over p mark start → ⊥) → isStarting (q .state) ≡ true
   still-starting q (over o) s n = absurd (n o)
-  still-starting q (idle i) s n = absurd (starting-apart (p .state) s (i .0))
-  still-starting q (up m b x d) s n = absurd (starting-apart (p .state) s b)
+  still-starting q (idle i) s n = absurd (never-starting (p .state) (i .0) s)
+  still-starting q (up m b x d) s n = absurd (never-starting (p .state) b s)
   still-starting q (same b m) s n = s
 
   -- down already, or by time
@@ -196,10 +198,6 @@ module _ (p : Phase) (mark start : Micros) where
   not-down : (st : State) → st ≡ Down → isConnected st ≡ true → ⊥
   unfolding isConnected
   not-down st q c = false≢true (sym (ap isConnected q) ∙ c)
-
-  not-starting : (st : State) → st ≡ Down → isStarting st ≡ true → ⊥
-  unfolding isStarting
-  not-starting st q s = false≢true (sym (ap isStarting q) ∙ s)
 
   pub was-down : (q : Phase) → Leaves p mark start q → q .state ≡ Down → IsDown
   was-down q (over o) d = inr (inl o)
@@ -211,7 +209,7 @@ module _ (p : Phase) (mark start : Micros) where
   is-down q (over o) x = down-down
   is-down q (idle i) x = down-down
   is-down q (up n b x c) (inl d) = absurd (not-down (p .state) d b)
-  is-down q (up n b x c) (inr (inl o)) = absurd (starting-apart (p .state) (o .0) b)
+  is-down q (up n b x c) (inr (inl o)) = absurd (never-starting (p .state) b (o .0))
   is-down q (up n b x c) (inr (inr i)) = absurd (n i)
   is-down q (same b n) (inl d) = d
   is-down q (same b n) (inr (inl o)) = absurd (n o)
@@ -231,7 +229,7 @@ module _ (l : Link) (e : Event) (g : Long (l .phase)) where
   abbrev P : Report → Type 0
   P x = Because (x .number) (x .reason)
 
-  pub left : Leaves (l .phase) (l .mark) (e .start) (r .phase)
+  left : Leaves (l .phase) (l .mark) (e .start) (r .phase)
   unfolding begun
   left = passed-leaves (begun l e) (l .mark) (e .start) g
 
@@ -251,13 +249,13 @@ module _ (l : Link) (e : Event) (g : Long (l .phase)) where
       each-both P (shutTells r restarted) (tells (shut r restarted) (startingFast (l .mark) (e .start) (e .end)))
       (shutting-each restarted (inl (inr k)) (λ u. restarts u (inr k)))
       (move-each Because (shut r restarted) _ (fast-makes Because (l .mark) (e .start) (e .end) (not-idle (inr k)) (λ i w. fails (low k i w))))
-  acting-each Byte k = byte-each Because r e (l .mark) (λ _. frame) success (λ _ h. fails (wrong h)) (λ d. outside d k) (λ u. downs (stops u))
+  acting-each Byte k = byte-each Because r e (l .mark) (λ _. frame) success (λ s h. fails (wrong s k h)) (λ d. outside d k) (λ u. downs (stops u))
   acting-each Tick k = each-none P
   acting-each Drop k = shutting-each dropped (inr k) (λ u. drops u k)
   acting-each Other k = each-none P
 
   -- EACH OF ITS REPORTS HAS A CAUSE
-  pub cause-each : EachOf Because (handledTells l e)
+  cause-each : EachOf Because (handledTells l e)
   unfolding handledTells
   cause-each =
       each-both P (passedTells (begun l e) (l .mark) (e .start)) (actedTells (e .kind) r e (l .mark)) passing-each (acting-each (e .kind) refl)
@@ -267,7 +265,7 @@ module _ (l : Link) (e : Event) (g : Long (l .phase)) where
   unfolding handledTells
   by-passing number reason t = tells-left number reason (passedTells (begun l e) (l .mark) (e .start)) (actedTells (e .kind) r e (l .mark)) t
 
-  by-acting : (number reason : ℕ) (k : Kind) → e .kind ≡ k → Tells number reason (actedTells k r e (l .mark)) → Tells number reason (handledTells l e)
+  pub by-acting : (number reason : ℕ) (k : Kind) → e .kind ≡ k → Tells number reason (actedTells k r e (l .mark)) → Tells number reason (handledTells l e)
   unfolding handledTells
   by-acting number reason k q t =
       tells-right number reason (passedTells (begun l e) (l .mark) (e .start)) (actedTells (e .kind) r e (l .mark))
@@ -326,7 +324,7 @@ module _ (es : Log) (e : Event) where
   abbrev pub CauseAt : ℕ → ℕ → Type 0
   CauseAt = Cause (here .phase) (leftBy here e .phase) (here .mark) e
 
-  pub cause-at : (x : Report) → Among x (reportsTo ourStep es e) → CauseAt (x .number) (x .reason)
+  cause-at : (x : Report) → Among x (reportsTo ourStep es e) → CauseAt (x .number) (x .reason)
   cause-at x i = cause-each here e (long-of es) x (subst (Among x) (reports-made es e (taken-by-report es e x i)) i)
 
   pub made-at : (number reason : ℕ) → numberAfter (takenOf es) e ≡ taken → Tells number reason (handledTells here e) → Tells number reason (reportsTo ourStep es e)
@@ -335,7 +333,7 @@ module _ (es : Log) (e : Event) where
   pub left-at : Leaves (here .phase) (here .mark) (e .start) (leftBy here e .phase)
   left-at = left here e (long-of es)
 
-  -- a report of some number, or of some number and reason: the event is taken, and there is a cause
+  -- a report of this number and reason: the event is taken, and there is a cause
   pub record Caused (number reason : ℕ) : Type 0 where
     pub number-is : numberAfter (takenOf es) e ≡ taken
     pub cause : CauseAt number reason
@@ -346,6 +344,7 @@ module _ (es : Log) (e : Event) where
     cause = subst (λ (k : ℕ). CauseAt number k) (t .reason-is) (subst (λ (n : ℕ). CauseAt n (t .report .reason)) (t .number-is) (cause-at (t .report) (t .made)));
   }
 
+  -- a report of this number
   pub record Spoken (number : ℕ) : Type 0 where
     pub reason : ℕ
     pub caused : Caused number reason

@@ -3,7 +3,7 @@
 -- restart; 6 and 7 come in a session only. (Report 7 reason 1 is `stops-exactly`.)
 -- Assumes nothing.
 use Prim.Native.Nat.{ℕ, _+_, _-_, _≤_, _<_}
-use mathlib.Core.Bool.{Bool, true, false, not, _&&_, false≢true}
+use mathlib.Core.Bool.{Bool, true, false, not, false≢true}
 use mathlib.Core.Path.{_≡_, refl, sym, ap, _∙_}
 use mathlib.Core.Logic.{_↔_, _⊎_, ⊎-elim}
 use native.Mathlib.Omega.{arith}
@@ -22,7 +22,7 @@ use Rattle.events.specs.declared.Event.{Event}
 use Rattle.talk.specs.Talk.{isFirst}
 use Rattle.talk.specs.declared.Reply.{Reply}
 use Rattle.talk.specs.declared.Reply.the-variants.{Never, First, Further}
-use Rattle.phases.specs.Phases.{isQuiet, isOpen, isConnected}
+use Rattle.phases.specs.Phases.{isQuiet, isConnected}
 use Rattle.phases.specs.declared.Phase.{Phase}
 use Rattle.moves.specs.Moves.{isIdle, isGoodLow}
 use Rattle.link.specs.declared.Link.{Link}
@@ -44,14 +44,14 @@ use Rattle.demands.proofs.Causes.{of-fail, of-wait, of-down, of-not-idl
 use Rattle.demands.proofs.Causes.{waits-made, idles-made, dropped-made, restarted-made, not-idle-made, low-made, long-of, left-at, tells-caused, says-caused, made-at, says-made}
 
 -- ---- idle long enough, low long enough
-pub not-idle-time : (mark start : Micros) → (isIdle mark start ≡ false) ↔ (start .0 < mark .0 + 300_000)
+not-idle-time : (mark start : Micros) → (isIdle mark start ≡ false) ↔ (start .0 < mark .0 + 300_000)
 unfolding isIdle
 not-idle-time mark start = (
   λ i. let h = ltb-true (start .0 - mark .0) 300_000 (not-false (ltb (start .0 - mark .0) 300_000) i) in omega arith,
   λ h. ap not (lt-ltb (start .0 - mark .0) 300_000 (omega arith)),
 )
 
-pub idle-time : (mark start : Micros) → (isIdle mark start ≡ true) ↔ (mark .0 + 300_000 ≤ start .0)
+idle-time : (mark start : Micros) → (isIdle mark start ≡ true) ↔ (mark .0 + 300_000 ≤ start .0)
 unfolding isIdle
 idle-time mark start = (
   λ i. let h = ltb-false (start .0 - mark .0) 300_000 (not-true (ltb (start .0 - mark .0) 300_000) i) in omega arith,

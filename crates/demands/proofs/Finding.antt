@@ -35,7 +35,7 @@ or-second : (a b : Bool) → b ≡ true → (a || b) ≡ true
 or-second true b h = refl
 or-second false b h = h
 
-pub among-says : {r : Report} {rs : List Report} (number : ℕ) → Among r rs → r .number ≡ number → Says number rs
+among-says : {r : Report} {rs : List Report} (number : ℕ) → Among r rs → r .number ≡ number → Says number rs
 unfolding isAmong
 among-says {r = r} number first q = rw (eq-eqb (r .number) number q) refl
 among-says {r = r} number (later {rs = rs} {s = s} a) q = or-second (eqb (s .number) number) (isAmong number rs) (among-says number a q)

@@ -5,7 +5,6 @@ use mathlib.Core.List.{_++_}
 use mathlib.Core.Path.{_≡_, refl, sym, ap, _∙_, subst}
 use native.Mathlib.Omega.{arith}
 use borrow.Author.Tests.{ltb-true, lt-ltb, not-true}
-use lib.Dec.{eqb}
 use Rattle.base.specs.Reports.{damageReport, failedReport, noReplyReport, downReport, noReason, brokenOff, windowOver, idleOver}
 use Rattle.base.proofs.Tests.{and-split, by-test}
 use Rattle.units.specs.Units.{gapOf, isEarlier}
@@ -29,6 +28,7 @@ use Rattle.link.proofs.Long.{Long}
 use Rattle.demands.specs.Endings.{Tells}
 use Rattle.demands.proofs.Tiling.{moved-phase}
 use Rattle.demands.proofs.Saying.{each-both}
+use Rattle.demands.proofs.Going.{never-starting}
 use Rattle.demands.proofs.Finding.{EachOf, Makes, move-each, move-tells, tells-left, tells-right}
 
 -- ---- what runs out as time passes
@@ -79,14 +79,6 @@ open-unquiet Starting o q = false≢true q
 open-unquiet Quiet o q = false≢true o
 open-unquiet Held o q = false≢true q
 open-unquiet Damage o q = false≢true q
-
-pub starting-apart : (st : State) → isStarting st ≡ true → isConnected st ≡ true → ⊥
-unfolding isStarting isConnected
-starting-apart Down s c = false≢true s
-starting-apart Starting s c = false≢true c
-starting-apart Quiet s c = false≢true s
-starting-apart Held s c = false≢true s
-starting-apart Damage s c = false≢true s
 
 -- a connected link has something open or not
 pub open-or : (A : Type 0) (st : State) → isConnected st ≡ true → (isOpen st ≡ true → A) → (isQuiet st ≡ true → A) → A
@@ -222,7 +214,7 @@ module _ (p : Phase) (mark start : Micros) where
   unfolding afterWindow
   fourth-up n c q d =
       by-test Fourth (isStarting (q .state) && isOver (q .start) (sinceOrigin q mark start))
-      (λ t. absurd (starting-apart (q .state) (and-split (isStarting (q .state)) _ t .0) d)) (λ _. lasts n c q d)
+      (λ t. absurd (never-starting (q .state) d (and-split (isStarting (q .state)) _ t .0))) (λ _. lasts n c q d)
 
   fourth-apart : isConnected (p .state) ≡ false → Fourth (afterWindow p mark start)
   unfolding afterWindow
@@ -243,8 +235,8 @@ module _ (p : Phase) (mark start : Micros) where
 
   over-makes : (m : Move) → Fourth m → Over p mark start → m ≡ makes failedReport windowOver down
   over-makes m (runs-out o) x = refl
-  over-makes m (fallen i) x = absurd (starting-apart (p .state) (x .0) (i .0))
-  over-makes m (lasts n c q d) x = absurd (starting-apart (p .state) (x .0) c)
+  over-makes m (fallen i) x = absurd (never-starting (p .state) (i .0) (x .0))
+  over-makes m (lasts n c q d) x = absurd (never-starting (p .state) c (x .0))
   over-makes m (rests c n) x = absurd (n x)
 
   -- THE PHASE THAT TIME LEAVES
