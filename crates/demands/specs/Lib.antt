@@ -7,3 +7,4 @@ pub mod Connecting
 pub mod Sessions
 pub mod Messages
 pub mod Accounts
+pub mod Endings

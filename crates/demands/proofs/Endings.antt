@@ -1,0 +1,255 @@
+-- Behind any events from a fresh link: report 8 is made exactly by an address or wake-up that was not idle long enough, report 4 reason 3 exactly by a
+-- wake-up of a wrong low, report 6 exactly where a first reply stayed out, and report 7 by its reason exactly where P3 max passed, at a drop, and at a
+-- restart; 6 and 7 come in a session only. (Report 7 reason 1 is `stops-exactly`.)
+-- Assumes nothing.
+use Prim.Native.Nat.{ℕ, _+_, _-_, _≤_, _<_}
+use mathlib.Core.Bool.{Bool, true, false, not, false≢true}
+use mathlib.Core.Path.{_≡_, refl, sym, ap, _∙_}
+use mathlib.Core.Logic.{_↔_, _⊎_, ⊎-elim}
+use native.Mathlib.Omega.{arith}
+use borrow.Author.Tests.{ltb-true, ltb-false, lt-ltb, le-ltb, not-true, not-false}
+use lib.Dec.{ltb}
+use Rattle.base.specs.Numbers.{taken}
+use Rattle.base.specs.Reports.{failedReport, noReplyReport, downReport, notIdleReport, noReason, wrongLow, idleOver, dropped, restarted}
+use Rattle.base.proofs.Tests.{and-split}
+use Rattle.units.specs.Units.{gapOf}
+use Rattle.units.specs.declared.Micros.{Micros}
+use Rattle.timing.specs.Timing.{isPassed}
+use Rattle.timing.specs.declared.Limit.{Limit}
+use Rattle.timing.specs.declared.Windows.{Windows}
+use Rattle.events.specs.declared.Kind.the-variants.{Drop}
+use Rattle.events.specs.declared.Event.{Event}
+use Rattle.talk.specs.Talk.{isFirst}
+use Rattle.talk.specs.declared.Reply.{Reply}
+use Rattle.talk.specs.declared.Reply.the-variants.{Never, First, Further}
+use Rattle.phases.specs.Phases.{isQuiet, isConnected}
+use Rattle.phases.specs.declared.Phase.{Phase}
+use Rattle.moves.specs.Moves.{isIdle, isGoodLow}
+use Rattle.link.specs.declared.Link.{Link}
+use Rattle.listing.specs.Listing.{heldOf}
+use Rattle.demands.specs.Logs.{Log, markOf, numberAfter, takenOf, InBytes}
+use Rattle.demands.specs.Refusals.{Not}
+use Rattle.demands.specs.Histories.{ourStep, after, reportsTo, Says}
+use Rattle.demands.specs.Starts.{Low}
+use Rattle.demands.specs.Sessions.{Talk, Session, inForce, IsIn, gapBefore}
+use Rattle.demands.specs.Endings.{Tells, Starter, NotIdle, WrongLow, NoReply, IdleOver}
+use Rattle.demands.proofs.Holding.{holds-some, holds-none}
+use Rattle.demands.proofs.Kept.{kept-of}
+use Rattle.demands.proofs.Basics.{basics}
+use Rattle.demands.proofs.Session.{SomeSession, session-link, session-exactly}
+use Rattle.demands.proofs.Passing.{Waited, Idled, Leaves, quiet-is, open-or}
+use Rattle.demands.proofs.Acting.{quiet-shut}
+use Rattle.demands.proofs.Causes.{Downs as DownBy, stops, idles, drops, restarts, leftBy}
+use Rattle.demands.proofs.Causes.{of-fail, of-wait, of-down, of-not-idle, of-low, of-idle, of-dropped, of-restarted, was-connected, still-connected}
+use Rattle.demands.proofs.Causes.{waits-made, idles-made, dropped-made, restarted-made, not-idle-made, low-made, long-of, left-at, tells-caused, says-caused, made-at, says-made}
+
+-- ---- idle long enough, low long enough
+not-idle-time : (mark start : Micros) → (isIdle mark start ≡ false) ↔ (start .0 < mark .0 + 300_000)
+unfolding isIdle
+not-idle-time mark start = (
+  λ i. let h = ltb-true (start .0 - mark .0) 300_000 (not-false (ltb (start .0 - mark .0) 300_000) i) in omega arith,
+  λ h. ap not (lt-ltb (start .0 - mark .0) 300_000 (omega arith)),
+)
+
+idle-time : (mark start : Micros) → (isIdle mark start ≡ true) ↔ (mark .0 + 300_000 ≤ start .0)
+unfolding isIdle
+idle-time mark start = (
+  λ i. let h = ltb-false (start .0 - mark .0) 300_000 (not-true (ltb (start .0 - mark .0) 300_000) i) in omega arith,
+  λ h. ap not (le-ltb (start .0 - mark .0) 300_000 (omega arith)),
+)
+
+good-low : (e : Event) → (isGoodLow (e .start) (e .end) ≡ true) ↔ Low e
+unfolding isGoodLow
+good-low e =
+    let d = e .end .0 - e .start .0 in (
+      λ g.
+          let x = and-split (not (ltb d 24_000)) (not (ltb 26_000 d)) g in
+          let a = ltb-false d 24_000 (not-true (ltb d 24_000) (x .0)) in
+          let b = ltb-false 26_000 d (not-true (ltb 26_000 d) (x .1)) in
+          (omega arith, omega arith),
+      λ w.
+          let a = w .0 in
+          let b = w .1 in
+          rw (le-ltb d 24_000 (omega arith), le-ltb 26_000 d (omega arith)) refl,
+    )
+
+pub wrong-low : (e : Event) → (isGoodLow (e .start) (e .end) ≡ false) ↔ Not (Low e)
+wrong-low e = (λ f w. false≢true (sym f ∙ good-low e .1 w), by-test-of (isGoodLow (e .start) (e .end)) refl)
+  where
+    by-test-of : (b : Bool) → isGoodLow (e .start) (e .end) ≡ b → Not (Low e) → isGoodLow (e .start) (e .end) ≡ false
+    by-test-of true g n = absurd (n (good-low e .0 g))
+    by-test-of false g n = g
+
+-- the link's mark is the history's
+pub mark-not-idle : (es : Log) (e : Event) → (isIdle (after ourStep es .link .mark) (e .start) ≡ false) ↔ (e .start .0 < markOf (takenOf es) .0 + 300_000)
+mark-not-idle es e =
+    let m = ap (λ (x : Micros). isIdle x (e .start)) (basics es .mark) in
+    let t = not-idle-time (markOf (takenOf es)) (e .start) in
+    (λ i. t .0 (sym m ∙ i), λ h. m ∙ t .1 h)
+
+pub mark-idle : (es : Log) (e : Event) → (isIdle (after ourStep es .link .mark) (e .start) ≡ true) ↔ (markOf (takenOf es) .0 + 300_000 ≤ e .start .0)
+mark-idle es e =
+    let m = ap (λ (x : Micros). isIdle x (e .start)) (basics es .mark) in
+    let t = idle-time (markOf (takenOf es)) (e .start) in
+    (λ i. t .0 (sym m ∙ i), λ h. m ∙ t .1 h)
+
+-- NOT IDLE
+pub not-idle-exactly : (es : Log) (e : Event)
+    → Says notIdleReport (reportsTo ourStep es e) ↔ ((numberAfter (takenOf es) e ≡ taken) × NotIdle (takenOf es) e)
+not-idle-exactly es e = (
+  λ s.
+      let x = says-caused es e notIdleReport s .caused in
+      let c = of-not-idle _ _ _ e (x .cause) refl in
+      (x .number-is, (c .0, mark-not-idle es e .0 (c .1))),
+  λ c. says-made es e notIdleReport noReason (c .0) (not-idle-made (after ourStep es .link) e (long-of es) (c .1 .0) (mark-not-idle es e .1 (c .1 .1))),
+)
+
+-- A WRONG LOW
+pub wrong-low-exactly : (es : Log) (e : Event)
+    → Tells failedReport wrongLow (reportsTo ourStep es e) ↔ ((numberAfter (takenOf es) e ≡ taken) × WrongLow (takenOf es) e)
+wrong-low-exactly es e = (
+  λ s.
+      let x = tells-caused es e failedReport wrongLow s in
+      let c = of-low _ _ _ e (of-fail _ _ _ e (x .cause) refl) refl in
+      (x .number-is, (c .0, mark-idle es e .0 (c .1), wrong-low e .0 (c .2))),
+  λ c.
+      made-at es e failedReport wrongLow (c .0)
+      (low-made (after ourStep es .link) e (long-of es) (c .1 .0) (mark-idle es e .1 (c .1 .1)) (wrong-low e .1 (c .1 .2))),
+)
+
+-- ---- in a session: the reply, the windows and the bytes held are the link's
+first-is : (reply : Reply) → isFirst reply ≡ true → reply ≡ First
+unfolding isFirst
+first-is Never f = absurd (false≢true f)
+first-is First f = refl
+first-is Further f = absurd (false≢true f)
+
+is-first : (reply : Reply) → reply ≡ First → isFirst reply ≡ true
+unfolding isFirst
+is-first reply q = ap isFirst q
+
+module _ (es : Log) (e : Event) (t : Talk) (b : InBytes es) (s : Session ourStep es t) where
+  abbrev l : Link
+  l = after ourStep es .link
+
+  abbrev held : ℕ
+  held = heldOf l
+
+  abbrev gap : Micros
+  gap = gapBefore (takenOf es) e
+
+  is-in : IsIn t l
+  is-in = session-link es t b s
+
+  quiet-holds : isQuiet (l .phase .state) ≡ true → held ≡ 0
+  unfolding heldOf
+  quiet-holds q =
+      let x = quiet-shut (l .phase .state) q in
+      let n = holds-none (l .phase .state) (l .named) (l .heard) (x .0) (x .1) (kept-of es .holds) in
+      omega arith
+
+  holds-quiet : held ≡ 0 → isQuiet (l .phase .state) ≡ true
+  unfolding heldOf
+  holds-quiet z =
+      open-or (isQuiet (l .phase .state) ≡ true) (l .phase .state) (is-in .connected)
+      (λ o. let n = holds-some (l .phase .state) (l .named) (l .heard) o (kept-of es .holds) in absurd (omega arith)) (λ q. q)
+
+  replied : l .phase .reply ≡ t .reply
+  replied = is-in .reply
+
+  same-gap : gapOf (l .mark) (e .start) ≡ gap
+  same-gap = ap (λ (x : Micros). gapOf x (e .start)) (basics es .mark)
+
+  same-passed : (limit : Windows → Limit) → isPassed (limit (l .phase .windows)) (gapOf (l .mark) (e .start)) ≡ isPassed (limit (inForce t)) gap
+  same-passed limit = ap (λ (w : Windows). isPassed (limit w) (gapOf (l .mark) (e .start))) (is-in .windows) ∙ ap (isPassed (limit (inForce t))) same-gap
+
+  same-p2 : isPassed (l .phase .windows .p2max) (gapOf (l .mark) (e .start)) ≡ isPassed (inForce t .p2max) gap
+  same-p2 = same-passed (λ (w : Windows). w .p2max)
+
+  same-p3 : isPassed (l .phase .windows .p3max) (gapOf (l .mark) (e .start)) ≡ isPassed (inForce t .p3max) gap
+  same-p3 = same-passed (λ (w : Windows). w .p3max)
+
+  waited-is : Waited (l .phase) (gapOf (l .mark) (e .start)) ↔ NoReply t held gap
+  waited-is = (
+    λ w. (sym replied ∙ first-is (l .phase .reply) (w .1), quiet-holds (w .0), sym same-p2 ∙ w .2),
+    λ n. (holds-quiet (n .1), is-first (l .phase .reply) (replied ∙ n .0), same-p2 ∙ n .2),
+  )
+
+  idled-is : Idled (l .phase) (gapOf (l .mark) (e .start)) ↔ IdleOver t held gap
+  idled-is = (
+    λ i. (sym same-p3 ∙ i .1, λ f z. sym same-p2 ∙ i .2 (holds-quiet z) (is-first (l .phase .reply) (replied ∙ f))),
+    λ i. (is-in .connected, same-p3 ∙ i .0, λ q f. same-p2 ∙ i .1 (sym replied ∙ first-is (l .phase .reply) f) (quiet-holds q)),
+  )
+
+-- NO REPLY
+pub no-reply-exactly : (es : Log) (e : Event) (t : Talk) → InBytes es → Session ourStep es t
+    → Says noReplyReport (reportsTo ourStep es e)
+    ↔ ((numberAfter (takenOf es) e ≡ taken) × NoReply t (heldOf (after ourStep es .link)) (gapBefore (takenOf es) e))
+no-reply-exactly es e t b s = (
+  λ x.
+      let c = says-caused es e noReplyReport x .caused in
+      (c .number-is, waited-is es e t b s .0 (of-wait _ _ _ e (c .cause) refl)),
+  λ x. says-made es e noReplyReport noReason (x .0) (waits-made (after ourStep es .link) e (long-of es) (waited-is es e t b s .1 (x .1))),
+)
+
+-- DOWN: by P3 max, by a drop, by an address or wake-up
+pub record Downs (es : Log) (e : Event) (t : Talk) : Type 0 where
+  pub idle : Tells downReport idleOver (reportsTo ourStep es e)
+      ↔ ((numberAfter (takenOf es) e ≡ taken) × IdleOver t (heldOf (after ourStep es .link)) (gapBefore (takenOf es) e))
+  pub dropped : Tells downReport dropped (reportsTo ourStep es e)
+      ↔ ((numberAfter (takenOf es) e ≡ taken) × (e .kind ≡ Drop) × Not (IdleOver t (heldOf (after ourStep es .link)) (gapBefore (takenOf es) e)))
+  pub restarted : Tells downReport restarted (reportsTo ourStep es e)
+      ↔ ((numberAfter (takenOf es) e ≡ taken) × Starter e × Not (IdleOver t (heldOf (after ourStep es .link)) (gapBefore (takenOf es) e)))
+
+module _ (es : Log) (e : Event) (t : Talk) (b : InBytes es) (s : Session ourStep es t) where
+  abbrev here : Link
+  here = after ourStep es .link
+
+  -- what time leaves connected: P3 max has not passed
+  stays-up : isConnected (leftBy here e .phase .state) ≡ true → Not (IdleOver t (heldOf here) (gapBefore (takenOf es) e))
+  stays-up c i = was-connected (here .phase) (here .mark) (e .start) _ (left-at es e) c .1 (idled-is es e t b s .1 i)
+
+  up-stays : Not (IdleOver t (heldOf here) (gapBefore (takenOf es) e)) → isConnected (leftBy here e .phase .state) ≡ true
+  up-stays n =
+      still-connected (here .phase) (here .mark) (e .start) _ (left-at es e) (session-link es t b s .connected) (λ i. n (idled-is es e t b s .0 i))
+
+  downs-by : Downs es e t
+  downs-by = record {
+    idle = (
+      λ x.
+          let c = tells-caused es e downReport idleOver x in
+          (c .number-is, idled-is es e t b s .0 (of-idle _ _ _ e (of-down _ _ _ e (c .cause) refl) refl)),
+      λ x. made-at es e downReport idleOver (x .0) (idles-made here e (long-of es) (idled-is es e t b s .1 (x .1))),
+    );
+    dropped = (
+      λ x.
+          let c = tells-caused es e downReport dropped x in
+          let d = of-dropped _ _ _ e (of-down _ _ _ e (c .cause) refl) refl in
+          (c .number-is, d .1, stays-up (d .0)),
+      λ x. made-at es e downReport dropped (x .0) (dropped-made here e (long-of es) (up-stays (x .2)) (x .1)),
+    );
+    restarted = (
+      λ x.
+          let c = tells-caused es e downReport restarted x in
+          let d = of-restarted _ _ _ e (of-down _ _ _ e (c .cause) refl) refl in
+          (c .number-is, d .1, stays-up (d .0)),
+      λ x. made-at es e downReport restarted (x .0) (restarted-made here e (long-of es) (up-stays (x .2)) (x .1)),
+    );
+  }
+
+pub downs-exactly : (es : Log) (e : Event) (t : Talk) → InBytes es → Session ourStep es t → Downs es e t
+downs-exactly es e t b s = downs-by es e t b s
+
+-- BOTH IN A SESSION ONLY
+down-connected : (p q : Phase) (mark : Micros) (e : Event) {k : ℕ} → Leaves p mark (e .start) q → DownBy p q mark e k → isConnected (p .state) ≡ true
+down-connected p q mark e v (stops c) = was-connected p mark (e .start) q v c .0
+down-connected p q mark e v (idles i) = i .0
+down-connected p q mark e v (drops c d) = was-connected p mark (e .start) q v c .0
+down-connected p q mark e v (restarts c d) = was-connected p mark (e .start) q v c .0
+
+pub only-in-session : (es : Log) (e : Event) → InBytes es
+    → Says noReplyReport (reportsTo ourStep es e) ⊎ Says downReport (reportsTo ourStep es e) → SomeSession es
+only-in-session es e b x =
+    session-exactly es b .0
+    (⊎-elim (λ w. quiet-is (after ourStep es .link .phase .state) (of-wait _ _ _ e (says-caused es e noReplyReport w .caused .cause) refl .0))
+    (λ d. down-connected _ _ _ e (left-at es e) (of-down _ _ _ e (says-caused es e downReport d .caused .cause) refl)) x)

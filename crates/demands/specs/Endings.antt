@@ -1,0 +1,58 @@
+-- What ends an initialization, a wait for a reply and a session, and which bytes are outside, told by the history (document 01, "Events and what the
+-- link does"). That the link's reports are exactly these is proved in proofs/Endings.antt and proofs/Initializing.antt.
+-- Assumes nothing.
+use Prim.Native.Nat.{ℕ, _+_, _≤_, _<_}
+use mathlib.Core.Bool.{true}
+use mathlib.Core.List.{List}
+use mathlib.Core.Path.{_≡_}
+use mathlib.Core.Logic.{_⊎_}
+use Rattle.base.specs.Numbers.{taken}
+use Rattle.base.specs.Reports.{connectedReport, failedReport}
+use Rattle.units.specs.declared.Micros.{Micros}
+use Rattle.timing.specs.Timing.{isPassed}
+use Rattle.events.specs.declared.Kind.the-variants.{Address, WakeUp}
+use Rattle.events.specs.declared.Event.{Event}
+use Rattle.talk.specs.declared.Reply.the-variants.{First}
+use Rattle.reports.specs.declared.Report.{Report}
+use Rattle.demands.specs.Logs.{Log, _▷_, markOf, numberAfter, takenOf}
+use Rattle.demands.specs.Refusals.{Not}
+use Rattle.demands.specs.Histories.{Step, reportsTo, Says, Among}
+use Rattle.demands.specs.Starts.{Low}
+use Rattle.demands.specs.Sessions.{Talk, inForce}
+
+-- a report of this number and reason is among them
+pub record Tells (number reason : ℕ) (rs : List Report) : Type 0 where
+  pub report : Report
+  pub made : Among report rs
+  pub number-is : report .number ≡ number
+  pub reason-is : report .reason ≡ reason
+
+-- A or W
+abbrev pub Starter : Event → Type 0
+Starter e = (e .kind ≡ Address) ⊎ (e .kind ≡ WakeUp)
+
+-- "A or W needs 300 ms from the old mark to its start, else report 8 and down"
+abbrev pub NotIdle : Log → Event → Type 0
+NotIdle log e = Starter e × (e .start .0 < markOf log .0 + 300_000)
+
+-- "Low for 24 to 26 ms, else report 4 reason 3 at once."; the 300 ms are "judged before the length of the low"
+abbrev pub WrongLow : Log → Event → Type 0
+WrongLow log e = (e .kind ≡ WakeUp) × (markOf log .0 + 300_000 ≤ e .start .0) × Not (Low e)
+
+-- ---- in a session, with so many bytes held and so long a gap from the mark to the event's start
+-- "First reply awaited and P2 max passed: report 6". Nothing is held then: what is held ends before P2 max passes, and "After either, no reply is
+-- expected."
+abbrev pub NoReply : Talk → ℕ → Micros → Type 0
+NoReply t held gap = (t .reply ≡ First) × (held ≡ 0) × (isPassed (inForce t .p2max) gap ≡ true)
+
+-- "Then, connected, no first reply awaited, P3 max passed: report 7 reason 2, down." Where one was awaited, P2 max has passed too, or what was held has
+-- ended.
+abbrev pub IdleOver : Talk → ℕ → Micros → Type 0
+IdleOver t held gap = (isPassed (inForce t .p3max) gap ≡ true) × (t .reply ≡ First → held ≡ 0 → isPassed (inForce t .p2max) gap ≡ true)
+
+-- ---- AN INITIALIZATION of the history: from an address or wake-up on that was idle long enough and low long enough, as long as no report 3 or 4 is made.
+pub data Starting (step : Step) : Log → Type 0 where
+  starts : {es : Log} {e : Event} → numberAfter (takenOf es) e ≡ taken → Starter e → Not (NotIdle (takenOf es) e) → Not (WrongLow (takenOf es) e)
+      → Starting step (es ▷ e)
+  goes-on : {es : Log} {e : Event} → Starting step es → Not (Says connectedReport (reportsTo step es e)) → Not (Says failedReport (reportsTo step es e))
+      → Starting step (es ▷ e)
