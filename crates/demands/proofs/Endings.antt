@@ -27,9 +27,10 @@ use Rattle.phases.specs.declared.Phase.{Phase}
 use Rattle.moves.specs.Moves.{isIdle, isGoodLow}
 use Rattle.link.specs.declared.Link.{Link}
 use Rattle.listing.specs.Listing.{heldOf}
+use Rattle.link.specs.Stepping.{stepOf}
 use Rattle.demands.specs.Logs.{Log, markOf, numberAfter, takenOf, InBytes}
 use Rattle.demands.specs.Refusals.{Not}
-use Rattle.demands.specs.Histories.{ourStep, after, reportsTo, Says}
+use Rattle.demands.specs.Histories.{after, reportsTo, Says}
 use Rattle.demands.specs.Starts.{Low}
 use Rattle.demands.specs.Sessions.{Talk, Session, inForce, IsIn, gapBefore}
 use Rattle.demands.specs.Endings.{Tells, Starter, NotIdle, WrongLow, NoReply, IdleOver}
@@ -81,13 +82,13 @@ wrong-low e = (λ f w. false≢true (sym f ∙ good-low e .1 w), by-test-of (isG
     by-test-of false g n = g
 
 -- the link's mark is the history's
-pub mark-not-idle : (es : Log) (e : Event) → (isIdle (after ourStep es .link .mark) (e .start) ≡ false) ↔ (e .start .0 < markOf (takenOf es) .0 + 300_000)
+pub mark-not-idle : (es : Log) (e : Event) → (isIdle (after stepOf es .link .mark) (e .start) ≡ false) ↔ (e .start .0 < markOf (takenOf es) .0 + 300_000)
 mark-not-idle es e =
     let m = ap (λ (x : Micros). isIdle x (e .start)) (basics es .mark) in
     let t = not-idle-time (markOf (takenOf es)) (e .start) in
     (λ i. t .0 (sym m ∙ i), λ h. m ∙ t .1 h)
 
-pub mark-idle : (es : Log) (e : Event) → (isIdle (after ourStep es .link .mark) (e .start) ≡ true) ↔ (markOf (takenOf es) .0 + 300_000 ≤ e .start .0)
+pub mark-idle : (es : Log) (e : Event) → (isIdle (after stepOf es .link .mark) (e .start) ≡ true) ↔ (markOf (takenOf es) .0 + 300_000 ≤ e .start .0)
 mark-idle es e =
     let m = ap (λ (x : Micros). isIdle x (e .start)) (basics es .mark) in
     let t = idle-time (markOf (takenOf es)) (e .start) in
@@ -95,18 +96,18 @@ mark-idle es e =
 
 -- NOT IDLE
 pub not-idle-exactly : (es : Log) (e : Event)
-    → Says notIdleReport (reportsTo ourStep es e) ↔ ((numberAfter (takenOf es) e ≡ taken) × NotIdle (takenOf es) e)
+    → Says notIdleReport (reportsTo stepOf es e) ↔ ((numberAfter (takenOf es) e ≡ taken) × NotIdle (takenOf es) e)
 not-idle-exactly es e = (
   λ s.
       let x = says-caused es e notIdleReport s .caused in
       let c = of-not-idle _ _ _ e (x .cause) refl in
       (x .number-is, (c .0, mark-not-idle es e .0 (c .1))),
-  λ c. says-made es e notIdleReport noReason (c .0) (not-idle-made (after ourStep es .link) e (long-of es) (c .1 .0) (mark-not-idle es e .1 (c .1 .1))),
+  λ c. says-made es e notIdleReport noReason (c .0) (not-idle-made (after stepOf es .link) e (long-of es) (c .1 .0) (mark-not-idle es e .1 (c .1 .1))),
 )
 
 -- A WRONG LOW
 pub wrong-low-exactly : (es : Log) (e : Event)
-    → Tells failedReport wrongLow (reportsTo ourStep es e) ↔ ((numberAfter (takenOf es) e ≡ taken) × WrongLow (takenOf es) e)
+    → Tells failedReport wrongLow (reportsTo stepOf es e) ↔ ((numberAfter (takenOf es) e ≡ taken) × WrongLow (takenOf es) e)
 wrong-low-exactly es e = (
   λ s.
       let x = tells-caused es e failedReport wrongLow s in
@@ -114,7 +115,7 @@ wrong-low-exactly es e = (
       (x .number-is, (c .0, mark-idle es e .0 (c .1), wrong-low e .0 (c .2))),
   λ c.
       made-at es e failedReport wrongLow (c .0)
-      (low-made (after ourStep es .link) e (long-of es) (c .1 .0) (mark-idle es e .1 (c .1 .1)) (wrong-low e .1 (c .1 .2))),
+      (low-made (after stepOf es .link) e (long-of es) (c .1 .0) (mark-idle es e .1 (c .1 .1)) (wrong-low e .1 (c .1 .2))),
 )
 
 -- ---- in a session: the reply, the windows and the bytes held are the link's
@@ -128,9 +129,9 @@ is-first : (reply : Reply) → reply ≡ First → isFirst reply ≡ true
 unfolding isFirst
 is-first reply q = ap isFirst q
 
-module _ (es : Log) (e : Event) (t : Talk) (b : InBytes es) (s : Session ourStep es t) where
+module _ (es : Log) (e : Event) (t : Talk) (b : InBytes es) (s : Session stepOf es t) where
   abbrev l : Link
-  l = after ourStep es .link
+  l = after stepOf es .link
 
   abbrev held : ℕ
   held = heldOf l
@@ -182,28 +183,28 @@ module _ (es : Log) (e : Event) (t : Talk) (b : InBytes es) (s : Session ourStep
   )
 
 -- NO REPLY
-pub no-reply-exactly : (es : Log) (e : Event) (t : Talk) → InBytes es → Session ourStep es t
-    → Says noReplyReport (reportsTo ourStep es e)
-    ↔ ((numberAfter (takenOf es) e ≡ taken) × NoReply t (heldOf (after ourStep es .link)) (gapBefore (takenOf es) e))
+pub no-reply-exactly : (es : Log) (e : Event) (t : Talk) → InBytes es → Session stepOf es t
+    → Says noReplyReport (reportsTo stepOf es e)
+    ↔ ((numberAfter (takenOf es) e ≡ taken) × NoReply t (heldOf (after stepOf es .link)) (gapBefore (takenOf es) e))
 no-reply-exactly es e t b s = (
   λ x.
       let c = says-caused es e noReplyReport x .caused in
       (c .number-is, waited-is es e t b s .0 (of-wait _ _ _ e (c .cause) refl)),
-  λ x. says-made es e noReplyReport noReason (x .0) (waits-made (after ourStep es .link) e (long-of es) (waited-is es e t b s .1 (x .1))),
+  λ x. says-made es e noReplyReport noReason (x .0) (waits-made (after stepOf es .link) e (long-of es) (waited-is es e t b s .1 (x .1))),
 )
 
 -- DOWN: by P3 max, by a drop, by an address or wake-up
 pub record Downs (es : Log) (e : Event) (t : Talk) : Type 0 where
-  pub idle : Tells downReport idleOver (reportsTo ourStep es e)
-      ↔ ((numberAfter (takenOf es) e ≡ taken) × IdleOver t (heldOf (after ourStep es .link)) (gapBefore (takenOf es) e))
-  pub dropped : Tells downReport dropped (reportsTo ourStep es e)
-      ↔ ((numberAfter (takenOf es) e ≡ taken) × (e .kind ≡ Drop) × Not (IdleOver t (heldOf (after ourStep es .link)) (gapBefore (takenOf es) e)))
-  pub restarted : Tells downReport restarted (reportsTo ourStep es e)
-      ↔ ((numberAfter (takenOf es) e ≡ taken) × Starter e × Not (IdleOver t (heldOf (after ourStep es .link)) (gapBefore (takenOf es) e)))
+  pub idle : Tells downReport idleOver (reportsTo stepOf es e)
+      ↔ ((numberAfter (takenOf es) e ≡ taken) × IdleOver t (heldOf (after stepOf es .link)) (gapBefore (takenOf es) e))
+  pub dropped : Tells downReport dropped (reportsTo stepOf es e)
+      ↔ ((numberAfter (takenOf es) e ≡ taken) × (e .kind ≡ Drop) × Not (IdleOver t (heldOf (after stepOf es .link)) (gapBefore (takenOf es) e)))
+  pub restarted : Tells downReport restarted (reportsTo stepOf es e)
+      ↔ ((numberAfter (takenOf es) e ≡ taken) × Starter e × Not (IdleOver t (heldOf (after stepOf es .link)) (gapBefore (takenOf es) e)))
 
-module _ (es : Log) (e : Event) (t : Talk) (b : InBytes es) (s : Session ourStep es t) where
+module _ (es : Log) (e : Event) (t : Talk) (b : InBytes es) (s : Session stepOf es t) where
   abbrev here : Link
-  here = after ourStep es .link
+  here = after stepOf es .link
 
   -- what time leaves connected: P3 max has not passed
   stays-up : isConnected (leftBy here e .phase .state) ≡ true → Not (IdleOver t (heldOf here) (gapBefore (takenOf es) e))
@@ -237,7 +238,7 @@ module _ (es : Log) (e : Event) (t : Talk) (b : InBytes es) (s : Session ourStep
     );
   }
 
-pub downs-exactly : (es : Log) (e : Event) (t : Talk) → InBytes es → Session ourStep es t → Downs es e t
+pub downs-exactly : (es : Log) (e : Event) (t : Talk) → InBytes es → Session stepOf es t → Downs es e t
 downs-exactly es e t b s = downs-by es e t b s
 
 -- BOTH IN A SESSION ONLY
@@ -248,8 +249,8 @@ down-connected p q mark e v (drops c d) = was-connected p mark (e .start) q v c 
 down-connected p q mark e v (restarts c d) = was-connected p mark (e .start) q v c .0
 
 pub only-in-session : (es : Log) (e : Event) → InBytes es
-    → Says noReplyReport (reportsTo ourStep es e) ⊎ Says downReport (reportsTo ourStep es e) → SomeSession es
+    → Says noReplyReport (reportsTo stepOf es e) ⊎ Says downReport (reportsTo stepOf es e) → SomeSession es
 only-in-session es e b x =
     session-exactly es b .0
-    (⊎-elim (λ w. quiet-is (after ourStep es .link .phase .state) (of-wait _ _ _ e (says-caused es e noReplyReport w .caused .cause) refl .0))
+    (⊎-elim (λ w. quiet-is (after stepOf es .link .phase .state) (of-wait _ _ _ e (says-caused es e noReplyReport w .caused .cause) refl .0))
     (λ d. down-connected _ _ _ e (left-at es e) (of-down _ _ _ e (says-caused es e downReport d .caused .cause) refl)) x)

@@ -15,11 +15,11 @@ use Rattle.moves.specs.declared.Move.{Move}
 use Rattle.reports.specs.Reporting.{reportOf, listed}
 use Rattle.reports.specs.declared.Report.{Report}
 use Rattle.reports.specs.declared.Run.{Run}
-use Rattle.link.specs.Stepping.{refusedBy}
+use Rattle.link.specs.Stepping.{refusedBy, stepOf}
 use Rattle.link.specs.declared.Answer.{Answer}
 use Rattle.link.proofs.Three.{tells, handledTells, three-enough}
 use Rattle.demands.specs.Logs.{Log, numberAfter, takenOf}
-use Rattle.demands.specs.Histories.{ourStep, after, reportsTo, isAmong, Says, Among, first, later}
+use Rattle.demands.specs.Histories.{after, reportsTo, isAmong, Says, Among, first, later}
 use Rattle.demands.specs.Endings.{Tells}
 use Rattle.demands.proofs.Basics.{answer-refused}
 use Rattle.demands.proofs.Exactly.{reports-taken}
@@ -90,14 +90,14 @@ move-each C r m h =
     (λ z. each-one (λ (x : Report). C (x .number) (x .reason)) _ (h z))
 
 -- ---- of an event: one that is refused makes none
-pub reports-made : (es : Log) (e : Event) → numberAfter (takenOf es) e ≡ taken → reportsTo ourStep es e ≡ handledTells (after ourStep es .link) e
-reports-made es e q = reports-taken es e q ∙ three-enough (after ourStep es .link) e
+pub reports-made : (es : Log) (e : Event) → numberAfter (takenOf es) e ≡ taken → reportsTo stepOf es e ≡ handledTells (after stepOf es .link) e
+reports-made es e q = reports-taken es e q ∙ three-enough (after stepOf es .link) e
 
-none-refused : (es : Log) (e : Event) → (numberAfter (takenOf es) e ≡ taken → ⊥) → reportsTo ourStep es e ≡ []
+none-refused : (es : Log) (e : Event) → (numberAfter (takenOf es) e ≡ taken → ⊥) → reportsTo stepOf es e ≡ []
 unfolding refusedBy listed
 none-refused es e q = ap (λ (a : Answer). listed (a .reports)) (answer-refused es e q)
 
-pub taken-by-report : (es : Log) (e : Event) (x : Report) → Among x (reportsTo ourStep es e) → numberAfter (takenOf es) e ≡ taken
+pub taken-by-report : (es : Log) (e : Event) (x : Report) → Among x (reportsTo stepOf es e) → numberAfter (takenOf es) e ≡ taken
 taken-by-report es e x i = by-number (eqb (numberAfter (takenOf es) e) taken) refl
   where
     by-number : (b : Bool) → eqb (numberAfter (takenOf es) e) taken ≡ b → numberAfter (takenOf es) e ≡ taken
