@@ -26,7 +26,7 @@ use Rattle.reports.specs.declared.Report.{Report}
 use Rattle.reports.specs.declared.Run.{Run}
 use Rattle.link.specs.Handling.{hearing}
 use Rattle.link.proofs.Three.{tells, shutTells, byteTells}
-use Rattle.demands.specs.Endings.{Tells}
+use Rattle.demands.specs.Histories.{Tells}
 use Rattle.demands.proofs.Tiling.{moved-phase}
 use Rattle.demands.proofs.Saying.{each-both}
 use Rattle.demands.proofs.Finding.{EachOf, Makes, move-each, move-tells, tells-left, tells-right}

@@ -28,8 +28,8 @@ use Rattle.link.proofs.Three.{tells, passedTells, shutTells, actedTells, handle
 use Rattle.link.proofs.Long.{Long, fresh-long, step-long}
 use Rattle.link.specs.Stepping.{stepOf}
 use Rattle.demands.specs.Logs.{Log, none, _▷_, numberAfter, takenOf}
-use Rattle.demands.specs.Histories.{after, reportsTo, Says, Among}
-use Rattle.demands.specs.Endings.{Tells, Starter}
+use Rattle.demands.specs.Histories.{after, reportsTo, Says, Among, Tells}
+use Rattle.demands.specs.Endings.{Starter}
 use Rattle.demands.proofs.Saying.{each-none, each-both}
 use Rattle.demands.proofs.Going.{never-starting}
 use Rattle.demands.proofs.Finding.{says-speaks, tells-says, tells-left, tells-right, move-tells, EachOf, move-each, reports-made, taken-by-report}
@@ -51,11 +51,11 @@ module _ (p q : Phase) (mark : Micros) (e : Event) where
         → Fails (judged (q .start) (e .side) (e .value) (sinceOrigin q mark (e .start)))
 
   -- of a report 7
-  pub data Downs : ℕ → Type 0 where
-    stops : isConnected (q .state) ≡ true → Downs stopped
-    idles : Idled p (gapOf mark (e .start)) → Downs idleOver
-    drops : isConnected (q .state) ≡ true → e .kind ≡ Drop → Downs dropped
-    restarts : isConnected (q .state) ≡ true → Starter e → Downs restarted
+  pub data DownFor : ℕ → Type 0 where
+    stops : isConnected (q .state) ≡ true → DownFor stopped
+    idles : Idled p (gapOf mark (e .start)) → DownFor idleOver
+    drops : isConnected (q .state) ≡ true → e .kind ≡ Drop → DownFor dropped
+    restarts : isConnected (q .state) ≡ true → Starter e → DownFor restarted
 
   pub data Cause : ℕ → ℕ → Type 0 where
     frame : {k : ℕ} → Cause frameReport k
@@ -64,7 +64,7 @@ module _ (p q : Phase) (mark : Micros) (e : Event) where
     fails : {k : ℕ} → Fails k → Cause failedReport k
     outside : {k : ℕ} → q .state ≡ Down → e .kind ≡ Byte → Cause outsideReport k
     waits : {k : ℕ} → Waited p (gapOf mark (e .start)) → Cause noReplyReport k
-    downs : {k : ℕ} → Downs k → Cause downReport k
+    downs : {k : ℕ} → DownFor k → Cause downReport k
     not-idle : {k : ℕ} → Starter e → isIdle mark (e .start) ≡ false → Cause notIdleReport k
 
   -- ---- the cause of a report, by its number and reason
@@ -98,7 +98,7 @@ module _ (p q : Phase) (mark : Micros) (e : Event) where
   of-wait (downs d) z = absurd (omega arith)
   of-wait (not-idle s i) z = absurd (omega arith)
 
-  pub of-down : {n k : ℕ} → Cause n k → n ≡ downReport → Downs k
+  pub of-down : {n k : ℕ} → Cause n k → n ≡ downReport → DownFor k
   of-down frame z = absurd (omega arith)
   of-down damage z = absurd (omega arith)
   of-down success z = absurd (omega arith)
@@ -136,19 +136,19 @@ module _ (p q : Phase) (mark : Micros) (e : Event) where
   of-low (low w i l) z = (w, i, l)
   of-low (wrong s b h) z = absurd (omega arith)
 
-  pub of-idle : {k : ℕ} → Downs k → k ≡ idleOver → Idled p (gapOf mark (e .start))
+  pub of-idle : {k : ℕ} → DownFor k → k ≡ idleOver → Idled p (gapOf mark (e .start))
   of-idle (stops c) z = absurd (omega arith)
   of-idle (idles i) z = i
   of-idle (drops c d) z = absurd (omega arith)
   of-idle (restarts c s) z = absurd (omega arith)
 
-  pub of-dropped : {k : ℕ} → Downs k → k ≡ dropped → (isConnected (q .state) ≡ true) × (e .kind ≡ Drop)
+  pub of-dropped : {k : ℕ} → DownFor k → k ≡ dropped → (isConnected (q .state) ≡ true) × (e .kind ≡ Drop)
   of-dropped (stops c) z = absurd (omega arith)
   of-dropped (idles i) z = absurd (omega arith)
   of-dropped (drops c d) z = (c, d)
   of-dropped (restarts c s) z = absurd (omega arith)
 
-  pub of-restarted : {k : ℕ} → Downs k → k ≡ restarted → (isConnected (q .state) ≡ true) × Starter e
+  pub of-restarted : {k : ℕ} → DownFor k → k ≡ restarted → (isConnected (q .state) ≡ true) × Starter e
   of-restarted (stops c) z = absurd (omega arith)
   of-restarted (idles i) z = absurd (omega arith)
   of-restarted (drops c d) z = absurd (omega arith)
@@ -238,7 +238,7 @@ module _ (l : Link) (e : Event) (g : Long (l .phase)) where
   unfolding begun
   passing-each = passed-each (begun l e) (l .mark) (e .start) g Because (λ k. damage) waits (λ i. downs (idles i)) (λ o. fails (runs-out o))
 
-  shutting-each : (reason : ℕ) → Closer e → (isConnected (r .phase .state) ≡ true → Downs (l .phase) (r .phase) (l .mark) e reason) → EachOf Because (shutTells r reason)
+  shutting-each : (reason : ℕ) → Closer e → (isConnected (r .phase .state) ≡ true → DownFor (l .phase) (r .phase) (l .mark) e reason) → EachOf Because (shutTells r reason)
   shutting-each reason c d = shut-each r reason Because (λ k. damage) (λ s. fails (closes s c)) (λ u. downs (d u))
 
   acting-each : (k : Kind) → e .kind ≡ k → EachOf Because (actedTells k r e (l .mark))

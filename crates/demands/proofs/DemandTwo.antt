@@ -10,7 +10,8 @@ use mathlib.Core.Path.{_≡_}
 use lib.Dec.{eqb}
 use lib.ListN.{getD}
 use Rattle.base.specs.Numbers.{taken}
-use Rattle.base.specs.Reports.{frameReport, damageReport, connectedReport}
+use Rattle.base.specs.Reports.{frameReport, damageReport, connectedReport, failedReport, outsideReport, noReplyReport, downReport, notIdleReport}
+use Rattle.base.specs.Reports.{closed, windowOver, wrongLow, stopped, idleOver}
 use Rattle.keys.specs.Keys.{goodPair}
 use Rattle.keys.proofs.Eighteen.{eighteen, isIn, good-pairs}
 use Rattle.timing.specs.Timing.{p2Half, normalSet, extendedSet, decodedOf, notEncoded, encodedOf}
@@ -25,24 +26,27 @@ use Rattle.frame.specs.declared.Plan.{Plan}
 use Rattle.frame.specs.declared.Built.{Built}
 use Rattle.frame.proofs.RoundTrip.{SumsUp, BuiltReadsBack, built-reads-back}
 use Rattle.frame.proofs.WellRead.{IsFrame, reads-exactly, read-sums-up}
+use Rattle.events.specs.declared.Kind.the-variants.{Byte, Drop}
 use Rattle.events.specs.declared.Event.{Event}
 use Rattle.events.specs.declared.Side.{Side}
 use Rattle.talk.proofs.Frames.{isMessage, message-reads}
-use Rattle.phases.specs.Phases.{isConnected}
+use Rattle.phases.specs.Phases.{isStarting, isConnected}
 use Rattle.reports.specs.declared.Report.{Report}
+use Rattle.listing.specs.Listing.{heldOf}
+use Rattle.demands.specs.Refusals.{Not}
 use Rattle.demands.specs.Logs.{Log, _▷_, InBytes, numberAfter, takenOf, heardIn}
-use Rattle.demands.specs.Histories.{ourStep, after, answerTo, reportsTo, Says, Among}
-use Rattle.demands.specs.Connecting.{Connects}
-use Rattle.demands.specs.Sessions.{Talk, Session, IsIn, Reads, Turns}
+use Rattle.demands.specs.Histories.{ourStep, after, answerTo, reportsTo, Says, Among, Tells}
+use Rattle.demands.specs.Connecting.{Connects, Connected}
+use Rattle.demands.specs.Sessions.{Talk, Session, SomeSession, IsIn, Reads, Turns, gapBefore}
+use Rattle.demands.specs.Endings.{Starter, NotIdle, WrongLow, NoReply, Starting, AnswersStop, Downs}
 use Rattle.demands.specs.Messages.{EndsInFrame, ReportsFrame}
+use Rattle.demands.proofs.Endings as endings
 use Rattle.demands.proofs.Exactly as exactly
+use Rattle.demands.proofs.Initializing as initializing
 use Rattle.demands.proofs.Becomes as becomes
 use Rattle.demands.proofs.Names as names
-use Rattle.demands.proofs.Names.{Connected}
 use Rattle.demands.proofs.Session as session
-use Rattle.demands.proofs.Session.{SomeSession}
 use Rattle.demands.proofs.Speaking as speaking
-use Rattle.demands.proofs.Stopping.{Stopped, AnswersStop}
 use Rattle.demands.proofs.Turning as turning
 
 -- ---- a. KEY BYTES, FRAMES, TIMING CODES: what the crates below have proved, in one place
@@ -107,7 +111,7 @@ connects-names = names.connects-names
 -- ---- c. WHAT THE LINK REPORTS AS 1 is a frame that `read` takes, and its timing is the one that the frames say
 -- A session of the history lasts from an event that completes an initialization until a report 7; the link is connected exactly while one lasts.
 -- (`InBytes`: values of events are bytes, as they are in the code.)
-pub session-exactly : (es : Log) → InBytes es → (isConnected (after ourStep es .link .phase .state) ≡ true) ↔ SomeSession es
+pub session-exactly : (es : Log) → InBytes es → (isConnected (after ourStep es .link .phase .state) ≡ true) ↔ SomeSession ourStep es
 session-exactly = session.session-exactly
 
 -- In it, the link's key bytes are good and the session's. Its windows are KB1's set, the allowed codes of the latest tester frame, or as before, as
@@ -132,7 +136,52 @@ pub turns-exactly : (es : Log) (e : Event) (r : Report) → InBytes (es ▷ e) �
     → (r .number ≡ frameReport) ⊎ (r .number ≡ damageReport) → Turns ourStep (es ▷ e) r
 turns-exactly = turning.turns-exactly
 
--- ---- e. THE OTHER REPORTS of a link
--- The link is stopped (report 7, reason 1) exactly by a frame from the unit that answers a stop.
-pub stops-exactly : (es : Log) (e : Event) (t : Talk) → InBytes (es ▷ e) → Session ourStep es t → Stopped (reportsTo ourStep es e) ↔ AnswersStop t es e
+-- ---- e. THE OTHER REPORTS
+-- Report 7 and its reasons, in a session: idle too long, dropped, restarted; ..
+pub downs-exactly : (es : Log) (e : Event) (t : Talk) → InBytes es → Session ourStep es t → Downs ourStep es e t
+downs-exactly = endings.downs-exactly
+
+-- .. and stopped, exactly by a frame from the unit that answers a stop.
+pub stops-exactly : (es : Log) (e : Event) (t : Talk) → InBytes (es ▷ e) → Session ourStep es t
+    → Tells downReport stopped (reportsTo ourStep es e) ↔ AnswersStop ourStep t es e
 stops-exactly = turning.stops-exactly
+
+-- Report 6, in a session, exactly if a first reply is awaited and P2 max has passed.
+pub no-reply-exactly : (es : Log) (e : Event) (t : Talk) → InBytes es → Session ourStep es t
+    → Says noReplyReport (reportsTo ourStep es e)
+    ↔ ((numberAfter (takenOf es) e ≡ taken) × NoReply t (heldOf (after ourStep es .link)) (gapBefore (takenOf es) e))
+no-reply-exactly = endings.no-reply-exactly
+
+-- Outside a session there is neither.
+pub only-in-session : (es : Log) (e : Event) → InBytes es
+    → Says noReplyReport (reportsTo ourStep es e) ⊎ Says downReport (reportsTo ourStep es e) → SomeSession ourStep es
+only-in-session = endings.only-in-session
+
+-- Report 8 exactly if an address or a wake-up comes before 300 ms are over since the mark; ..
+pub not-idle-exactly : (es : Log) (e : Event)
+    → Says notIdleReport (reportsTo ourStep es e) ↔ ((numberAfter (takenOf es) e ≡ taken) × NotIdle (takenOf es) e)
+not-idle-exactly = endings.not-idle-exactly
+
+-- .. report 4 with reason 3 exactly if a wake-up comes later, and is low for less than 24 or more than 26 ms.
+pub wrong-low-exactly : (es : Log) (e : Event)
+    → Tells failedReport wrongLow (reportsTo ourStep es e) ↔ ((numberAfter (takenOf es) e ≡ taken) × WrongLow (takenOf es) e)
+wrong-low-exactly = endings.wrong-low-exactly
+
+-- Every other address or wake-up that is taken starts an initialization, and it lasts until a report 3 or 4: exactly so long the link is in one.
+pub starting-exactly : (es : Log) → (isStarting (after ourStep es .link .phase .state) ≡ true) ↔ Starting ourStep es
+starting-exactly = initializing.starting-exactly
+
+-- Report 4 with reason 2 exactly if A, W or D comes in an initialization whose window has not passed.
+pub closed-start-exactly : (es : Log) (e : Event)
+    → Tells failedReport closed (reportsTo ourStep es e)
+    ↔ ((numberAfter (takenOf es) e ≡ taken) × Starting ourStep es × (Starter e ⊎ (e .kind ≡ Drop)) × Not (Tells failedReport windowOver (reportsTo ourStep es e)))
+closed-start-exactly = initializing.closed-start-exactly
+
+-- Report 5 exactly if a byte comes in neither a session nor an initialization, or in one that ended as time passed to the byte.
+pub outside-exactly : (es : Log) (e : Event) → InBytes es
+    → Says outsideReport (reportsTo ourStep es e)
+    ↔ ((numberAfter (takenOf es) e ≡ taken) × (e .kind ≡ Byte)
+    × ((Not (SomeSession ourStep es) × Not (Starting ourStep es))
+    ⊎ Tells failedReport windowOver (reportsTo ourStep es e)
+    ⊎ Tells downReport idleOver (reportsTo ourStep es e)))
+outside-exactly = initializing.outside-exactly

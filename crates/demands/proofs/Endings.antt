@@ -17,7 +17,6 @@ use Rattle.units.specs.declared.Micros.{Micros}
 use Rattle.timing.specs.Timing.{isPassed}
 use Rattle.timing.specs.declared.Limit.{Limit}
 use Rattle.timing.specs.declared.Windows.{Windows}
-use Rattle.events.specs.declared.Kind.the-variants.{Drop}
 use Rattle.events.specs.declared.Event.{Event}
 use Rattle.talk.specs.Talk.{isFirst}
 use Rattle.talk.specs.declared.Reply.{Reply}
@@ -30,17 +29,17 @@ use Rattle.listing.specs.Listing.{heldOf}
 use Rattle.link.specs.Stepping.{stepOf}
 use Rattle.demands.specs.Logs.{Log, markOf, numberAfter, takenOf, InBytes}
 use Rattle.demands.specs.Refusals.{Not}
-use Rattle.demands.specs.Histories.{after, reportsTo, Says}
+use Rattle.demands.specs.Histories.{after, reportsTo, Says, Tells}
 use Rattle.demands.specs.Starts.{Low}
-use Rattle.demands.specs.Sessions.{Talk, Session, inForce, IsIn, gapBefore}
-use Rattle.demands.specs.Endings.{Tells, Starter, NotIdle, WrongLow, NoReply, IdleOver}
+use Rattle.demands.specs.Sessions.{Talk, Session, inForce, IsIn, gapBefore, SomeSession}
+use Rattle.demands.specs.Endings.{NotIdle, WrongLow, NoReply, IdleOver, Downs}
 use Rattle.demands.proofs.Holding.{holds-some, holds-none}
 use Rattle.demands.proofs.Kept.{kept-of}
 use Rattle.demands.proofs.Basics.{basics}
-use Rattle.demands.proofs.Session.{SomeSession, session-link, session-exactly}
+use Rattle.demands.proofs.Session.{session-link, session-exactly}
 use Rattle.demands.proofs.Passing.{Waited, Idled, Leaves, quiet-is, open-or}
 use Rattle.demands.proofs.Acting.{quiet-shut}
-use Rattle.demands.proofs.Causes.{Downs as DownBy, stops, idles, drops, restarts, leftBy}
+use Rattle.demands.proofs.Causes.{DownFor as DownBy, stops, idles, drops, restarts, leftBy}
 use Rattle.demands.proofs.Causes.{of-fail, of-wait, of-down, of-not-idle, of-low, of-idle, of-dropped, of-restarted, was-connected, still-connected}
 use Rattle.demands.proofs.Causes.{waits-made, idles-made, dropped-made, restarted-made, not-idle-made, low-made, long-of, left-at, tells-caused, says-caused, made-at, says-made}
 
@@ -194,14 +193,6 @@ no-reply-exactly es e t b s = (
 )
 
 -- DOWN: by P3 max, by a drop, by an address or wake-up
-pub record Downs (es : Log) (e : Event) (t : Talk) : Type 0 where
-  pub idle : Tells downReport idleOver (reportsTo stepOf es e)
-      ↔ ((numberAfter (takenOf es) e ≡ taken) × IdleOver t (heldOf (after stepOf es .link)) (gapBefore (takenOf es) e))
-  pub dropped : Tells downReport dropped (reportsTo stepOf es e)
-      ↔ ((numberAfter (takenOf es) e ≡ taken) × (e .kind ≡ Drop) × Not (IdleOver t (heldOf (after stepOf es .link)) (gapBefore (takenOf es) e)))
-  pub restarted : Tells downReport restarted (reportsTo stepOf es e)
-      ↔ ((numberAfter (takenOf es) e ≡ taken) × Starter e × Not (IdleOver t (heldOf (after stepOf es .link)) (gapBefore (takenOf es) e)))
-
 module _ (es : Log) (e : Event) (t : Talk) (b : InBytes es) (s : Session stepOf es t) where
   abbrev here : Link
   here = after stepOf es .link
@@ -214,7 +205,7 @@ module _ (es : Log) (e : Event) (t : Talk) (b : InBytes es) (s : Session stepOf 
   up-stays n =
       still-connected (here .phase) (here .mark) (e .start) _ (left-at es e) (session-link es t b s .connected) (λ i. n (idled-is es e t b s .0 i))
 
-  downs-by : Downs es e t
+  downs-by : Downs stepOf es e t
   downs-by = record {
     idle = (
       λ x.
@@ -238,7 +229,7 @@ module _ (es : Log) (e : Event) (t : Talk) (b : InBytes es) (s : Session stepOf 
     );
   }
 
-pub downs-exactly : (es : Log) (e : Event) (t : Talk) → InBytes es → Session stepOf es t → Downs es e t
+pub downs-exactly : (es : Log) (e : Event) (t : Talk) → InBytes es → Session stepOf es t → Downs stepOf es e t
 downs-exactly es e t b s = downs-by es e t b s
 
 -- BOTH IN A SESSION ONLY
@@ -249,7 +240,7 @@ down-connected p q mark e v (drops c d) = was-connected p mark (e .start) q v c 
 down-connected p q mark e v (restarts c d) = was-connected p mark (e .start) q v c .0
 
 pub only-in-session : (es : Log) (e : Event) → InBytes es
-    → Says noReplyReport (reportsTo stepOf es e) ⊎ Says downReport (reportsTo stepOf es e) → SomeSession es
+    → Says noReplyReport (reportsTo stepOf es e) ⊎ Says downReport (reportsTo stepOf es e) → SomeSession stepOf es
 only-in-session es e b x =
     session-exactly es b .0
     (⊎-elim (λ w. quiet-is (after stepOf es .link .phase .state) (of-wait _ _ _ e (says-caused es e noReplyReport w .caused .cause) refl .0))

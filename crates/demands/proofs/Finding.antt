@@ -19,8 +19,7 @@ use Rattle.link.specs.Stepping.{refusedBy, stepOf}
 use Rattle.link.specs.declared.Answer.{Answer}
 use Rattle.link.proofs.Three.{tells, handledTells, three-enough}
 use Rattle.demands.specs.Logs.{Log, numberAfter, takenOf}
-use Rattle.demands.specs.Histories.{after, reportsTo, isAmong, Says, Among, first, later}
-use Rattle.demands.specs.Endings.{Tells}
+use Rattle.demands.specs.Histories.{after, reportsTo, isAmong, Says, Among, first, later, Tells}
 use Rattle.demands.proofs.Basics.{answer-refused}
 use Rattle.demands.proofs.Exactly.{reports-taken}
 use Rattle.demands.proofs.Saying.{Each, each-none, each-one, among-left, among-right, not-among}

@@ -1,5 +1,5 @@
 -- A session going on: what the link of a session keeps (`At`), and that it keeps it while time passes (`passed-step`). Of each report made on the way
--- it is shown what `Tells` says.
+-- it is shown what `Shows` says.
 -- Assumes nothing.
 use Prim.Native.Nat.{ℕ, _+_}
 use mathlib.Core.Bool.{Bool, true, false, not, _&&_, _||_, false≢true}
@@ -37,13 +37,13 @@ use Rattle.reports.specs.declared.Run.{Run}
 use Rattle.link.specs.Handling.{passed}
 use Rattle.link.proofs.Three.{tells, passedTells}
 use Rattle.link.specs.Stepping.{stepOf}
+use Rattle.demands.specs.Endings.{Answers}
 use Rattle.demands.specs.Logs.{Log, _▷_, heardIn, numberAfter, takenOf, Begins, more}
-use Rattle.demands.specs.Histories.{isAmong}
+use Rattle.demands.specs.Histories.{isAmong, Tells}
 use Rattle.demands.specs.Accounts.{namedBy}
 use Rattle.demands.specs.Sessions.{Frames, stops, pendingIn, Talk, afterReport, talkAfter, Session, inForce, gapBefore, Stray, Early, Turns}
 use Rattle.demands.specs.Messages.{Speaks, EndsInFrame}
 use Rattle.demands.proofs.Messages.{Kept, GoneOn}
-use Rattle.demands.proofs.Stopping.{Stopped, Answers}
 use Rattle.demands.proofs.Saying.{Each, each-none, each-one, each-both, says-both, talk-both}
 
 -- ---- what the link of a session keeps
@@ -149,13 +149,13 @@ never-starting Damage c s = false≢true s
 
 -- ---- what is shown of a report of an event
 -- a report of the event e behind es, in a session with these key bytes and these frames; `all` are the event's reports
-pub record Tells (es : Log) (e : Event) (kb1 kb2 : ℕ) (fs : Frames) (all : List Report) (x : Report) : Type 0 where
+pub record Shows (es : Log) (e : Event) (kb1 kb2 : ℕ) (fs : Frames) (all : List Report) (x : Report) : Type 0 where
   pub reads : x .number ≡ frameReport → readOf kb1 kb2 (namedBy (heardIn (es ▷ e)) x) .no ≡ taken
   pub spoken : x .number ≡ frameReport → EndsInFrame stepOf es e (namedBy (heardIn (es ▷ e)) x)
   pub turns : (x .number ≡ frameReport) ⊎ (x .number ≡ damageReport) → Turns stepOf (es ▷ e) x
   pub answers : x .number ≡ downReport → x .reason ≡ stopped → Answers kb1 kb2 fs (e .side) (heardIn (es ▷ e)) all
   pub stops : x .number ≡ frameReport → e .side ≡ Unit → stops (pendingIn kb1 kb2 fs) (dataOf kb1 kb2 (namedBy (heardIn (es ▷ e)) x)) ≡ true
-      → Stopped all
+      → Tells downReport stopped all
 
 -- a talk with this reply
 abbrev pub withReply : Talk → Reply → Talk
@@ -164,7 +164,7 @@ withReply t reply = record { kb1 = t .kb1; kb2 = t .kb2; frames = t .frames; rep
 -- ---- the reports of an event e behind es, move by move
 module _ (es : Log) (e : Event) (all : List Report) where
   abbrev pub Told : Talk → Report → Type 0
-  Told t x = Tells es e (t .kb1) (t .kb2) (t .frames) all x
+  Told t x = Shows es e (t .kb1) (t .kb2) (t .frames) all x
 
   abbrev pub talked : Talk → List Report → Talk
   talked t rs = talkAfter t (e .side) (heardIn (es ▷ e)) rs

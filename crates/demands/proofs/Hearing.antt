@@ -48,7 +48,7 @@ use Rattle.link.specs.Handling.{hearing, byteHeard}
 use Rattle.link.proofs.Three.{tells, byteTells}
 use Rattle.link.specs.Stepping.{stepOf}
 use Rattle.demands.specs.Logs.{Log, _▷_, markOf, heardIn, numberAfter, takenOf, whole, more}
-use Rattle.demands.specs.Histories.{after, isAmong, Among, first, later}
+use Rattle.demands.specs.Histories.{after, isAmong, Among, first, later, Tells}
 use Rattle.demands.specs.Accounts.{namedBy}
 use Rattle.demands.specs.Sessions.{Frame, Frames, _▸_, stops, resets, retimes, codesIn, pendingIn, windowsIn, Talk, afterReport}
 use Rattle.demands.specs.Sessions.{talkAfter, Session, inForce, gapBefore, Stray, Early}
@@ -59,7 +59,6 @@ use Rattle.demands.proofs.Tiling.{sum-is}
 use Rattle.demands.proofs.Listening.{Bytes, byte-longer, begins-longer, alone-is}
 use Rattle.demands.proofs.Saying.{Each, each-none, each-one, each-both}
 use Rattle.demands.proofs.Turns.{same-is, has-side, first-early, first-stray, first-head, later-elsewhere}
-use Rattle.demands.proofs.Stopping.{Stopped}
 use Rattle.demands.proofs.Going.{Fits, Holds, Opened, At, Told, plain, turned}
 use Rattle.demands.proofs.Ending.{Ends, still-up, over}
 
@@ -482,7 +481,7 @@ module _ (es : Log) (e : Event) (all : List Report) (kind : e .kind ≡ Byte) (n
       abbrev Stops : Type 0
       Stops = stops latest (dataOf (t .kb1) (t .kb2) framedBytes) ≡ true
 
-      frame-told : (e .side ≡ Unit → Stops → Stopped all) → Told es e all t x
+      frame-told : (e .side ≡ Unit → Stops → Tells downReport stopped all) → Told es e all t x
       unfolding reportOf namesBytes
       frame-told f =
           let never : (k : ℕ) → (noReason ≡ k → ⊥) → lossReason (r .phase) noReason ≡ k → ⊥
@@ -547,7 +546,7 @@ module _ (es : Log) (e : Event) (all : List Report) (kind : e .kind ≡ Byte) (n
       frame-over q u z i =
           over refl
           (each-both (Told es e all t) (x ∷ []) (y q ∷ [])
-          (each-one (Told es e all t) x (frame-told (λ _ _. record { report = y q; made = i (y q) (later first); number = refl; reason = refl })))
+          (each-one (Told es e all t) x (frame-told (λ _ _. record { report = y q; made = i (y q) (later first); number-is = refl; reason-is = refl })))
           (each-one (Told es e all t) (y q) (stop-told q (i x first) u z))) refl
 
       off-second : (b c : Bool) → (b && c) ≡ false → b ≡ true → c ≡ false

@@ -34,17 +34,18 @@ use Rattle.link.specs.declared.Link.{Link}
 use Rattle.link.proofs.Three.{handledTells}
 use Rattle.link.proofs.Long.{Long}
 use Rattle.link.specs.Stepping.{stepOf}
+use Rattle.demands.specs.Sessions.{SomeSession}
 use Rattle.demands.specs.Logs.{Log, none, _▷_, numberAfter, takenOf, InBytes}
 use Rattle.demands.specs.Refusals.{Not}
-use Rattle.demands.specs.Histories.{after, reportsTo, isAmong, Says}
-use Rattle.demands.specs.Endings.{Tells, Starter, NotIdle, WrongLow, Starting, starts, goes-on}
+use Rattle.demands.specs.Histories.{after, reportsTo, isAmong, Says, Tells}
+use Rattle.demands.specs.Endings.{Starter, NotIdle, WrongLow, Starting, starts, goes-on}
 use Rattle.demands.proofs.Tiling.{moved-phase}
 use Rattle.demands.proofs.Phases.{In, carried, left-alone, shut-out, slow-in, slow-starts, fast-in, fast-starts, start-goes, start-ends, start-in, byte-in, byte-starts, stop-in}
 use Rattle.demands.proofs.Completing.{says-completes}
 use Rattle.demands.proofs.Becomes.{completes-becomes}
 use Rattle.demands.proofs.Exactly.{link-taken, link-refused, reports-taken}
 use Rattle.demands.proofs.Going.{never-starting}
-use Rattle.demands.proofs.Session.{SomeSession, session-exactly}
+use Rattle.demands.proofs.Session.{session-exactly}
 use Rattle.demands.proofs.Passing.{Over, Idled}
 use Rattle.demands.proofs.Acting.{byte-tells}
 use Rattle.demands.proofs.Causes.{Closer, Fails, runs-out, closes, low, wrong, of-fail, of-outside, of-down, of-over, of-closed, of-idle, leftBy}
@@ -305,7 +306,7 @@ false-of : (b : Bool) → (b ≡ true → ⊥) → b ≡ false
 false-of true n = absurd (n refl)
 false-of false n = refl
 
-down-exactly : (es : Log) → InBytes es → (after stepOf es .link .phase .state ≡ Down) ↔ (Not (SomeSession es) × Not (Starting stepOf es))
+down-exactly : (es : Log) → InBytes es → (after stepOf es .link .phase .state ≡ Down) ↔ (Not (SomeSession stepOf es) × Not (Starting stepOf es))
 down-exactly es b =
     let st = after stepOf es .link .phase .state in (
       λ d.
@@ -328,7 +329,7 @@ module _ (es : Log) (e : Event) where
   -- down, as the history says it
   abbrev Gone : Type 0
   Gone =
-      (Not (SomeSession es) × Not (Starting stepOf es))
+      (Not (SomeSession stepOf es) × Not (Starting stepOf es))
       ⊎ Tells failedReport windowOver (reportsTo stepOf es e)
       ⊎ Tells downReport idleOver (reportsTo stepOf es e)
 
@@ -347,7 +348,7 @@ pub outside-exactly : (es : Log) (e : Event) → InBytes es
     → Says outsideReport (reportsTo stepOf es e)
     ↔ ((numberAfter (takenOf es) e ≡ taken)
     × (e .kind ≡ Byte)
-    × ((Not (SomeSession es) × Not (Starting stepOf es))
+    × ((Not (SomeSession stepOf es) × Not (Starting stepOf es))
     ⊎ Tells failedReport windowOver (reportsTo stepOf es e)
     ⊎ Tells downReport idleOver (reportsTo stepOf es e)))
 outside-exactly es e b = (

@@ -13,17 +13,13 @@ use Rattle.base.specs.Numbers.{taken}
 use Rattle.base.specs.Reports.{connectedReport, noReason, restarted}
 use Rattle.base.specs.Sums.{countSum}
 use Rattle.units.specs.declared.Micros.{Micros}
-use Rattle.keys.specs.Keys.{goodPair}
 use Rattle.timing.specs.Timing.{setOf}
 use Rattle.events.specs.Events.{isByte}
 use Rattle.events.specs.declared.Kind.{Kind}
 use Rattle.events.specs.declared.Kind.the-variants.{Address, WakeUp, Byte, Tick, Drop, Other}
 use Rattle.events.specs.declared.Event.{Event}
 use Rattle.starts.specs.declared.Start.{Start}
-use Rattle.talk.specs.declared.Reply.the-variants.{Never}
-use Rattle.talk.specs.declared.Request.the-variants.{Ordinary}
 use Rattle.phases.specs.Phases.{starting, connected}
-use Rattle.phases.specs.declared.State.the-variants.{Quiet}
 use Rattle.phases.specs.declared.Phase.{Phase}
 use Rattle.reports.specs.Reporting.{namesBytes, reportOf, appended, listed, told}
 use Rattle.reports.specs.declared.Report.{Report}
@@ -31,10 +27,9 @@ use Rattle.reports.specs.declared.Run.{Run}
 use Rattle.link.specs.Handling.{passed, hearing, begun, handled, linkAfter}
 use Rattle.link.specs.Stepping.{takenBy, stepOf}
 use Rattle.link.specs.declared.Link.{Link}
-use Rattle.link.specs.declared.Answer.{Answer}
 use Rattle.demands.specs.Logs.{Log, none, _▷_, markOf, heardOf, numberAfter, takenOf}
 use Rattle.demands.specs.Histories.{after, answerTo}
-use Rattle.demands.specs.Connecting.{Since, here, tick, byte, Connects}
+use Rattle.demands.specs.Connecting.{Since, here, tick, byte, Connects, Connected}
 use Rattle.demands.proofs.Holding.{Holds}
 use Rattle.demands.proofs.Tiling.{passed-heard, shut-heard, passed-flows, shut-none, sum-is}
 use Rattle.demands.proofs.Kept.{timely, kept-of}
@@ -44,20 +39,6 @@ use Rattle.demands.proofs.Completing.{connecting, completes-run}
 use Rattle.demands.proofs.Running.{startOn, phaseOn, lastEnd, Starts, Runs, Behind, Inv, open-early, back-start, back-open, back-tick}
 use Rattle.demands.proofs.Running.{back-byte, no-since, completes-of}
 use Rattle.demands.proofs.Exactly.{runs-starts, done-of, ended-by, behind, link-taken, link-refused, log-taken, log-refused, inv-of}
-
-pub record Connected (log : Log) (e : Event) (c : Connects log e) (a : Answer) : Type 0 where
-  -- its one report: from the first byte behind the start, as many as came since, at the event's end
-  pub reports : listed (a .reports)
-      ≡ (record { first = length (heardOf (c .before)); bytes = length (heardOf (c .bytes)) + 1; time = e .end; number = connectedReport; reason = noReason } ∷ [])
-  -- connected, with nothing open, by these key bytes, which are a good pair
-  pub state : a .link .phase .state ≡ Quiet
-  pub kb1 : a .link .phase .start .kb1 ≡ c .kb1
-  pub kb2 : a .link .phase .start .kb2 ≡ c .kb2
-  pub good : goodPair (c .kb1) (c .kb2) ≡ true
-  -- "Timing starts at the set KB1 names", and nothing is expected yet
-  pub windows : a .link .phase .windows ≡ setOf (c .kb1)
-  pub reply : a .link .phase .reply ≡ Never
-  pub request : a .link .phase .request ≡ Ordinary
 
 -- ---- THE INVARIANT: while the link is in the initialization that a log ends in, the bytes named are those before its start
 abbrev Told : Link → Log → Type 0

@@ -25,7 +25,7 @@ use Rattle.reports.specs.declared.Run.{Run}
 use Rattle.link.specs.Handling.{passed}
 use Rattle.link.proofs.Three.{tells, passedTells}
 use Rattle.link.proofs.Long.{Long}
-use Rattle.demands.specs.Endings.{Tells}
+use Rattle.demands.specs.Histories.{Tells}
 use Rattle.demands.proofs.Tiling.{moved-phase}
 use Rattle.demands.proofs.Saying.{each-both}
 use Rattle.demands.proofs.Going.{never-starting}

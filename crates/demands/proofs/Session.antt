@@ -14,7 +14,7 @@ use Rattle.link.specs.Handling.{freshLink}
 use Rattle.link.specs.Stepping.{stepOf}
 use Rattle.demands.specs.Logs.{Log, none, _▷_, InBytes}
 use Rattle.demands.specs.Histories.{after, reportsTo, Says}
-use Rattle.demands.specs.Sessions.{Talk, Session, opens, lasts, IsIn}
+use Rattle.demands.specs.Sessions.{Talk, Session, opens, lasts, IsIn, SomeSession}
 use Rattle.demands.proofs.Becomes.{becomes-connected-exactly}
 use Rattle.demands.proofs.Ending.{Ends, still-up, over}
 use Rattle.demands.proofs.Course.{event-ends, session-at}
@@ -25,11 +25,6 @@ session-link es t b s =
     let f = session-at b s .fits in
     record { connected = f .connected; good = f .good; kb1 = f .kb1; kb2 = f .kb2; windows = f .windows; reply = f .reply }
 
--- the history is in a session
-pub record SomeSession (es : Log) : Type 0 where
-  pub talk : Talk
-  pub session : Session stepOf es talk
-
 -- where the link stays connected, no report 7 was made
 over-off : (es : Log) (e : Event) (all rs : List Report) (t : Talk) (r : Run) → Ends es e all t rs r → isConnected (r .phase .state) ≡ true
     → Says downReport rs → ⊥
@@ -37,7 +32,7 @@ over-off es e all rs t r (still-up n f a) c s = false≢true (sym n ∙ s)
 over-off es e all rs t r (over n f d) c s = false≢true (sym d ∙ c)
 
 last-event : (es : Log) (e : Event) → InBytes (es ▷ e) → (before : Bool) → isConnected (after stepOf es .link .phase .state) ≡ before
-    → (before ≡ true → SomeSession es) → isConnected (after stepOf (es ▷ e) .link .phase .state) ≡ true → SomeSession (es ▷ e)
+    → (before ≡ true → SomeSession stepOf es) → isConnected (after stepOf (es ▷ e) .link .phase .state) ≡ true → SomeSession stepOf (es ▷ e)
 unfolding InBytes
 last-event es e b true c f n =
     let x = f refl in
@@ -50,12 +45,12 @@ last-event es e b false c f n =
     let x = becomes-connected-exactly es e .0 (c, n) in
     record { talk = _; session = opens (x .0) (x .1) }
 
-connected-session : (es : Log) → InBytes es → isConnected (after stepOf es .link .phase .state) ≡ true → SomeSession es
+connected-session : (es : Log) → InBytes es → isConnected (after stepOf es .link .phase .state) ≡ true → SomeSession stepOf es
 unfolding InBytes after freshLink down isConnected
 connected-session none b n = absurd (false≢true n)
 connected-session (es ▷ e) b n =
     last-event es e b (isConnected (after stepOf es .link .phase .state)) refl (λ c. connected-session es (b .0) c) n
 
 -- CONNECTED EXACTLY IN A SESSION
-pub session-exactly : (es : Log) → InBytes es → (isConnected (after stepOf es .link .phase .state) ≡ true) ↔ SomeSession es
+pub session-exactly : (es : Log) → InBytes es → (isConnected (after stepOf es .link .phase .state) ≡ true) ↔ SomeSession stepOf es
 session-exactly es b = (λ c. connected-session es b c, λ x. session-link es (x .talk) b (x .session) .connected)

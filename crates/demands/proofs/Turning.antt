@@ -6,23 +6,23 @@ use mathlib.Core.Bool.{Bool, true, false}
 use mathlib.Core.List.{List}
 use mathlib.Core.Path.{_≡_, refl}
 use mathlib.Core.Logic.{_↔_, _⊎_, inl, ⊎-elim}
-use Rattle.base.specs.Reports.{frameReport, damageReport}
+use Rattle.base.specs.Reports.{frameReport, damageReport, downReport, stopped}
 use Rattle.events.specs.declared.Event.{Event}
 use Rattle.phases.specs.Phases.{isConnected}
 use Rattle.reports.specs.declared.Report.{Report}
 use Rattle.reports.specs.declared.Run.{Run}
 use Rattle.link.specs.Stepping.{stepOf}
+use Rattle.demands.specs.Endings.{AnswersStop}
 use Rattle.demands.specs.Logs.{Log, _▷_, heardIn, InBytes}
-use Rattle.demands.specs.Histories.{after, reportsTo, Among}
+use Rattle.demands.specs.Histories.{after, reportsTo, Among, Tells}
 use Rattle.demands.specs.Accounts.{namedBy}
-use Rattle.demands.specs.Sessions.{Talk, Session, Reads, Turns}
+use Rattle.demands.specs.Sessions.{Talk, Session, Reads, Turns, SomeSession}
 use Rattle.demands.specs.Messages.{EndsInFrame}
 use Rattle.demands.proofs.Saying.{Each}
-use Rattle.demands.proofs.Stopping.{Stopped, AnswersStop}
 use Rattle.demands.proofs.Going.{Told}
 use Rattle.demands.proofs.Ending.{Ends, still-up, over}
 use Rattle.demands.proofs.Course.{event-ends, session-at}
-use Rattle.demands.proofs.Session.{SomeSession, session-exactly}
+use Rattle.demands.proofs.Session.{session-exactly}
 use Rattle.demands.proofs.Unconnected.{none-unconnected}
 
 each-told : (es : Log) (e : Event) (all : List Report) (t : Talk) (rs : List Report) (r : Run) → Ends es e all t rs r → Each (Told es e all t) rs
@@ -37,11 +37,11 @@ told-in es e t b s = each-told es e (reportsTo stepOf es e) t (reportsTo stepOf 
 
 -- a report 1 or 2 comes in a session
 comes-in : (es : Log) (e : Event) (r : Report) → InBytes (es ▷ e) → Among r (reportsTo stepOf es e)
-    → (r .number ≡ frameReport) ⊎ (r .number ≡ damageReport) → SomeSession es
+    → (r .number ≡ frameReport) ⊎ (r .number ≡ damageReport) → SomeSession stepOf es
 unfolding InBytes
 comes-in es e r b i n = by-state (isConnected (after stepOf es .link .phase .state)) refl
   where
-    by-state : (c : Bool) → isConnected (after stepOf es .link .phase .state) ≡ c → SomeSession es
+    by-state : (c : Bool) → isConnected (after stepOf es .link .phase .state) ≡ c → SomeSession stepOf es
     by-state true c = session-exactly es (b .0) .0 c
     by-state false c = let x = none-unconnected es e c r i in absurd (⊎-elim (x .0) (x .1) n)
 
@@ -68,8 +68,8 @@ turns-exactly es e r b i n =
 
 -- THE LINK IS STOPPED exactly by a unit frame that answers a stop
 pub stops-exactly : (es : Log) (e : Event) (t : Talk) → InBytes (es ▷ e) → Session stepOf es t
-    → Stopped (reportsTo stepOf es e) ↔ AnswersStop t es e
+    → Tells downReport stopped (reportsTo stepOf es e) ↔ AnswersStop stepOf t es e
 stops-exactly es e t b s = (
-  λ x. told-in es e t b s (x .report) (x .made) .answers (x .number) (x .reason),
+  λ x. told-in es e t b s (x .report) (x .made) .answers (x .number-is) (x .reason-is),
   λ x. told-in es e t b s (x .report) (x .made) .stops (x .number) (x .unit) (x .stop),
 )

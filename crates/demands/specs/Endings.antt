@@ -5,27 +5,25 @@ use Prim.Native.Nat.{ℕ, _+_, _≤_, _<_}
 use mathlib.Core.Bool.{true}
 use mathlib.Core.List.{List}
 use mathlib.Core.Path.{_≡_}
-use mathlib.Core.Logic.{_⊎_}
+use mathlib.Core.Logic.{_↔_, _⊎_}
 use Rattle.base.specs.Numbers.{taken}
-use Rattle.base.specs.Reports.{connectedReport, failedReport}
+use Rattle.base.specs.Reports.{frameReport, connectedReport, failedReport, downReport, idleOver, dropped, restarted}
 use Rattle.units.specs.declared.Micros.{Micros}
 use Rattle.timing.specs.Timing.{isPassed}
-use Rattle.events.specs.declared.Kind.the-variants.{Address, WakeUp}
+use Rattle.events.specs.declared.Kind.the-variants.{Address, WakeUp, Drop}
+use Rattle.frame.specs.Read.{dataOf}
+use Rattle.events.specs.declared.Side.{Side}
+use Rattle.events.specs.declared.Side.the-variants.{Unit}
 use Rattle.events.specs.declared.Event.{Event}
 use Rattle.talk.specs.declared.Reply.the-variants.{First}
 use Rattle.reports.specs.declared.Report.{Report}
-use Rattle.demands.specs.Logs.{Log, _▷_, markOf, numberAfter, takenOf}
+use Rattle.listing.specs.Listing.{heldOf}
+use Rattle.demands.specs.Logs.{Log, _▷_, markOf, numberAfter, takenOf, heardIn}
 use Rattle.demands.specs.Refusals.{Not}
-use Rattle.demands.specs.Histories.{Step, reportsTo, Says, Among}
+use Rattle.demands.specs.Histories.{Step, after, reportsTo, Says, Among, Tells}
 use Rattle.demands.specs.Starts.{Low}
-use Rattle.demands.specs.Sessions.{Talk, inForce}
-
--- a report of this number and reason is among them
-pub record Tells (number reason : ℕ) (rs : List Report) : Type 0 where
-  pub report : Report
-  pub made : Among report rs
-  pub number-is : report .number ≡ number
-  pub reason-is : report .reason ≡ reason
+use Rattle.demands.specs.Accounts.{namedBy}
+use Rattle.demands.specs.Sessions.{Frames, stops, pendingIn, Talk, inForce, gapBefore}
 
 -- A or W
 abbrev pub Starter : Event → Type 0
@@ -56,3 +54,28 @@ pub data Starting (step : Step) : Log → Type 0 where
       → Starting step (es ▷ e)
   goes-on : {es : Log} {e : Event} → Starting step es → Not (Says connectedReport (reportsTo step es e)) → Not (Says failedReport (reportsTo step es e))
       → Starting step (es ▷ e)
+
+-- ---- what ends a session
+-- "a unit frame starting C2 after a tester frame starting 82": among these reports of an event from this side is a frame from the unit that answers a
+-- stop, by its data and that of the latest tester frame. (Key bytes and frames are those of the session so far; the frame's bytes are among those
+-- heard up to the event.)
+pub record Answers (kb1 kb2 : ℕ) (fs : Frames) (side : Side) (heard : List ℕ) (rs : List Report) : Type 0 where
+  pub report : Report
+  pub made : Among report rs
+  pub number : report .number ≡ frameReport
+  pub unit : side ≡ Unit
+  pub stop : stops (pendingIn kb1 kb2 fs) (dataOf kb1 kb2 (namedBy heard report)) ≡ true
+
+-- in the session t, behind es, the event e is reported as such a frame
+abbrev pub AnswersStop : Step → Talk → Log → Event → Type 0
+AnswersStop step t es e = Answers (t .kb1) (t .kb2) (t .frames) (e .side) (heardIn (es ▷ e)) (reportsTo step es e)
+
+-- report 7 and its reasons, in the session t: 2 "no first reply awaited, P3 max passed"; "if connected, report 7 (reason 4 for A or W, 3 for D)"; 1, a
+-- stop that the unit answers
+pub record Downs (step : Step) (es : Log) (e : Event) (t : Talk) : Type 0 where
+  pub idle : Tells downReport idleOver (reportsTo step es e)
+      ↔ ((numberAfter (takenOf es) e ≡ taken) × IdleOver t (heldOf (after step es .link)) (gapBefore (takenOf es) e))
+  pub dropped : Tells downReport dropped (reportsTo step es e)
+      ↔ ((numberAfter (takenOf es) e ≡ taken) × (e .kind ≡ Drop) × Not (IdleOver t (heldOf (after step es .link)) (gapBefore (takenOf es) e)))
+  pub restarted : Tells downReport restarted (reportsTo step es e)
+      ↔ ((numberAfter (takenOf es) e ≡ taken) × Starter e × Not (IdleOver t (heldOf (after step es .link)) (gapBefore (takenOf es) e)))

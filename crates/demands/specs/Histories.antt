@@ -62,3 +62,10 @@ Says number rs = isAmong number rs ≡ true
 pub data Among (r : Report) : List Report → Type 0 where
   first : {rs : List Report} → Among r (r ∷ rs)
   later : {rs : List Report} {s : Report} → Among r rs → Among r (s ∷ rs)
+
+-- a report of this number and reason is among them
+pub record Tells (number reason : ℕ) (rs : List Report) : Type 0 where
+  pub report : Report
+  pub made : Among report rs
+  pub number-is : report .number ≡ number
+  pub reason-is : report .reason ≡ reason

@@ -121,6 +121,11 @@ pub data Session (step : Step) : Log → Talk → Type 0 where
   lasts : {es : Log} {e : Event} {t : Talk} → Session step es t → Not (Says downReport (reportsTo step es e))
       → Session step (es ▷ e) (talkAfter t (e .side) (heardIn (es ▷ e)) (reportsTo step es e))
 
+-- the history is in a session
+pub record SomeSession (step : Step) (es : Log) : Type 0 where
+  pub talk : Talk
+  pub session : Session step es talk
+
 -- what a session says of its link
 abbrev pub inForce : Talk → Windows
 inForce t = windowsIn (t .kb1) (t .kb2) (t .frames)
