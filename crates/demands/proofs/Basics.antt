@@ -13,7 +13,7 @@ use Rattle.link.specs.Stepping.{numberOf, refusedBy, takenBy, stepOf}
 use Rattle.demands.specs.Logs.{Log, clockOf, markOf, countOf, heardIn, numberAfter, takenOf}
 use Rattle.demands.specs.Histories.{after, answerTo, reportsOf}
 use Rattle.demands.proofs.Holding.{holds-order, holds-none}
-use Rattle.demands.proofs.Kept.{kept-of, number-is, taken-answer, refused-answer, number-answered}
+use Rattle.demands.proofs.Invariant.{kept-of, number-is, taken-answer, refused-answer, number-answered}
 
 pub record Basics (es : Log) : Type 0 where
   -- the clock and the mark, and the mark is never later

@@ -36,7 +36,7 @@ use Rattle.demands.specs.Logs.{Log, _▷_, numberAfter, takenOf}
 use Rattle.demands.specs.Histories.{after}
 use Rattle.demands.specs.Connecting.{Connects}
 use Rattle.demands.proofs.Tiling.{moved-phase}
-use Rattle.demands.proofs.Phases.{In, byte-starts, start-connects}
+use Rattle.demands.proofs.Entering.{In, byte-starts, start-connects}
 use Rattle.demands.proofs.Completing.{Completes, completes-run, completes-by}
 use Rattle.demands.proofs.Exactly.{link-taken, link-refused, completes-connects}
 

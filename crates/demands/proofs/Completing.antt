@@ -34,7 +34,7 @@ use Rattle.link.specs.Handling.{passed, shut, hearing, byteHeard, actedBy, acte
 use Rattle.link.specs.declared.Link.{Link}
 use Rattle.link.proofs.Three.{tells, passedTells, shutTells, byteTells, actedTells, handledTells, three-enough}
 use Rattle.demands.specs.Histories.{isAmong, Says}
-use Rattle.demands.proofs.Phases.{In, Open, passed-in, passed-open, byte-starts, start-ends, start-three}
+use Rattle.demands.proofs.Entering.{In, Open, passed-in, passed-open, byte-starts, start-ends, start-three}
 
 -- THE BYTE COMPLETES THE INITIALIZATION THAT THE LINK IS IN
 pub record Completes (l : Link) (e : Event) : Type 0 where

@@ -35,14 +35,14 @@ use Rattle.demands.specs.Connecting.{Connects}
 use Rattle.demands.specs.Sessions.{pendingIn, windowsIn, Talk, opening, talkAfter, Session, opens, lasts}
 use Rattle.demands.proofs.Basics.{basics, answer-taken, answer-refused, calm}
 use Rattle.demands.proofs.Names.{connects-names}
-use Rattle.demands.proofs.Messages.{Kept, kept-none}
+use Rattle.demands.proofs.Carrying.{Kept, kept-none}
 use Rattle.demands.proofs.Saying.{Each, each-none, among-right}
 use Rattle.demands.specs.Messages.{InTime, refused, waits}
 use Rattle.demands.proofs.Listening.{heard-bytes, byte-more, other-more, refused-more}
 use Rattle.demands.proofs.Recent.{passed-recent, not-silent}
-use Rattle.demands.proofs.Turns.{not-other}
+use Rattle.demands.proofs.Reasons.{not-other}
 use Rattle.demands.proofs.Going.{At, SpeaksOn, at-more, Told, talked, Passes, passed-step}
-use Rattle.demands.proofs.Ending.{Ends, still-up, over, behind, tick-ends, drop-ends, slow-ends, fast-ends}
+use Rattle.demands.proofs.Closing.{Ends, still-up, over, behind, tick-ends, drop-ends, slow-ends, fast-ends}
 use Rattle.demands.proofs.Hearing.{byte-ends, byte-outside}
 
 -- ---- an event that is taken

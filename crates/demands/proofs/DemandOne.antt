@@ -24,7 +24,7 @@ use Rattle.demands.specs.Logs.{Log, clockOf, countOf, numberAfter, taken
 use Rattle.demands.specs.Refusals.{Not, Unknown, TooLate, Above, Numbered}
 use Rattle.demands.specs.Histories.{ourStep, after, answerTo, reportsOf}
 use Rattle.demands.proofs.Numbering.{zero-small, small-not-above, number-numbered, log-numbered}
-use Rattle.demands.proofs.Kept.{kept-of, kept-small, refused-answer, number-answered}
+use Rattle.demands.proofs.Invariant.{kept-of, kept-small, refused-answer, number-answered}
 use Rattle.demands.proofs.Basics as basics
 use Rattle.demands.proofs.Computed.{retiming, computed}
 

@@ -22,7 +22,7 @@ use Rattle.demands.specs.Histories.{ourStep, after, answerTo, reportsOf}
 use Rattle.demands.specs.Accounts.{allNamed, lastOf, countsOf, Accounted}
 use Rattle.demands.proofs.Tiling.{Tiled}
 use Rattle.demands.proofs.Counting.{tiled-sums}
-use Rattle.demands.proofs.Kept.{kept-of}
+use Rattle.demands.proofs.Invariant.{kept-of}
 use Rattle.demands.proofs.Basics.{basics, numbers-by-history, answer-taken, calm}
 use Rattle.demands.proofs.Places.{step-placed}
 use Rattle.demands.proofs.Naming.{tiled-turns, tiled-names}

@@ -40,14 +40,14 @@ use Rattle.demands.specs.Connecting.{Connects, Connected}
 use Rattle.demands.specs.Sessions.{Talk, Session, SomeSession, IsIn, Reads, Turns, gapBefore}
 use Rattle.demands.specs.Endings.{Starter, NotIdle, WrongLow, NoReply, Starting, AnswersStop, Downs}
 use Rattle.demands.specs.Messages.{EndsInFrame, ReportsFrame}
-use Rattle.demands.proofs.Endings as endings
+use Rattle.demands.proofs.Leaving as leaving
 use Rattle.demands.proofs.Exactly as exactly
 use Rattle.demands.proofs.Initializing as initializing
 use Rattle.demands.proofs.Becomes as becomes
 use Rattle.demands.proofs.Names as names
 use Rattle.demands.proofs.Session as session
 use Rattle.demands.proofs.Speaking as speaking
-use Rattle.demands.proofs.Turning as turning
+use Rattle.demands.proofs.Reporting as reporting
 
 -- ---- a. KEY BYTES, FRAMES, TIMING CODES: what the crates below have proved, in one place
 pub record Foundation : Type 0 where
@@ -121,7 +121,7 @@ session-link = session.session-link
 
 -- Each report 1 is made in a session and names bytes that `read` takes as a frame under the session's key bytes.
 pub frames-read : (es : Log) (e : Event) (r : Report) → InBytes (es ▷ e) → Among r (reportsTo ourStep es e) → r .number ≡ frameReport → Reads ourStep es e r
-frames-read = turning.frames-read
+frames-read = reporting.frames-read
 
 -- And the other way round: a report 1 names these bytes exactly if the event is the byte that ends a message of the session in them. A message goes from
 -- a first byte that is neither early nor stray over bytes of the same side, no more than 20 ms apart, until `read` takes what was heard of it.
@@ -134,38 +134,38 @@ frames-exactly = speaking.frames-exactly
 -- its side and its gap under the windows in force then.
 pub turns-exactly : (es : Log) (e : Event) (r : Report) → InBytes (es ▷ e) → Among r (reportsTo ourStep es e)
     → (r .number ≡ frameReport) ⊎ (r .number ≡ damageReport) → Turns ourStep (es ▷ e) r
-turns-exactly = turning.turns-exactly
+turns-exactly = reporting.turns-exactly
 
 -- ---- e. THE OTHER REPORTS
 -- Report 7 and its reasons, in a session: idle too long, dropped, restarted; ..
 pub downs-exactly : (es : Log) (e : Event) (t : Talk) → InBytes es → Session ourStep es t → Downs ourStep es e t
-downs-exactly = endings.downs-exactly
+downs-exactly = leaving.downs-exactly
 
 -- .. and stopped, exactly by a frame from the unit that answers a stop.
 pub stops-exactly : (es : Log) (e : Event) (t : Talk) → InBytes (es ▷ e) → Session ourStep es t
     → Tells downReport stopped (reportsTo ourStep es e) ↔ AnswersStop ourStep t es e
-stops-exactly = turning.stops-exactly
+stops-exactly = reporting.stops-exactly
 
 -- Report 6, in a session, exactly if a first reply is awaited and P2 max has passed.
 pub no-reply-exactly : (es : Log) (e : Event) (t : Talk) → InBytes es → Session ourStep es t
     → Says noReplyReport (reportsTo ourStep es e)
     ↔ ((numberAfter (takenOf es) e ≡ taken) × NoReply t (heldOf (after ourStep es .link)) (gapBefore (takenOf es) e))
-no-reply-exactly = endings.no-reply-exactly
+no-reply-exactly = leaving.no-reply-exactly
 
 -- Outside a session there is neither.
 pub only-in-session : (es : Log) (e : Event) → InBytes es
     → Says noReplyReport (reportsTo ourStep es e) ⊎ Says downReport (reportsTo ourStep es e) → SomeSession ourStep es
-only-in-session = endings.only-in-session
+only-in-session = leaving.only-in-session
 
 -- Report 8 exactly if an address or a wake-up comes before 300 ms are over since the mark; ..
 pub not-idle-exactly : (es : Log) (e : Event)
     → Says notIdleReport (reportsTo ourStep es e) ↔ ((numberAfter (takenOf es) e ≡ taken) × NotIdle (takenOf es) e)
-not-idle-exactly = endings.not-idle-exactly
+not-idle-exactly = leaving.not-idle-exactly
 
 -- .. report 4 with reason 3 exactly if a wake-up comes later, and is low for less than 24 or more than 26 ms.
 pub wrong-low-exactly : (es : Log) (e : Event)
     → Tells failedReport wrongLow (reportsTo ourStep es e) ↔ ((numberAfter (takenOf es) e ≡ taken) × WrongLow (takenOf es) e)
-wrong-low-exactly = endings.wrong-low-exactly
+wrong-low-exactly = leaving.wrong-low-exactly
 
 -- Every other address or wake-up that is taken starts an initialization, and it lasts until a report 3 or 4: exactly so long the link is in one.
 pub starting-exactly : (es : Log) → (isStarting (after ourStep es .link .phase .state) ≡ true) ↔ Starting ourStep es

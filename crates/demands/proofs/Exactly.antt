@@ -25,7 +25,7 @@ use Rattle.demands.specs.Histories.{after, reportsTo, isAmong, Says}
 use Rattle.demands.specs.Starts.{SlowStart, FastStart}
 use Rattle.demands.specs.Connecting.{Connects}
 use Rattle.demands.proofs.Numbering.{log-numbered}
-use Rattle.demands.proofs.Kept.{timely}
+use Rattle.demands.proofs.Invariant.{timely}
 use Rattle.demands.proofs.Basics.{basics, answer-taken, answer-refused}
 use Rattle.demands.proofs.Completing.{Completes, says-completes, completes-says}
 use Rattle.demands.proofs.Running.{startOn, Starts, Runs, Done, Behind, Inv, inv-on, inv-fresh, Ends, ends-of, completes-of}

@@ -43,7 +43,7 @@ use Rattle.demands.specs.Histories.{isAmong, Tells}
 use Rattle.demands.specs.Accounts.{namedBy}
 use Rattle.demands.specs.Sessions.{Frames, stops, pendingIn, Talk, afterReport, talkAfter, Session, inForce, gapBefore, Stray, Early, Turns}
 use Rattle.demands.specs.Messages.{Speaks, EndsInFrame}
-use Rattle.demands.proofs.Messages.{Kept, GoneOn}
+use Rattle.demands.proofs.Carrying.{Kept, GoneOn}
 use Rattle.demands.proofs.Saying.{Each, each-none, each-one, each-both, says-both, talk-both}
 
 -- ---- what the link of a session keeps

@@ -52,15 +52,15 @@ use Rattle.demands.specs.Histories.{after, isAmong, Among, first, later,
 use Rattle.demands.specs.Accounts.{namedBy}
 use Rattle.demands.specs.Sessions.{Frame, Frames, _▸_, stops, resets, retimes, codesIn, pendingIn, windowsIn, Talk, afterReport}
 use Rattle.demands.specs.Sessions.{talkAfter, Session, inForce, gapBefore, Stray, Early}
-use Rattle.demands.proofs.Messages.{Carries, Kept, begun as gone-none, on, gone-by, gone-ends, ends-now, kept-asked, message-carries}
-use Rattle.demands.proofs.Messages.{reply-windows, reply-request, reply-stops}
+use Rattle.demands.proofs.Carrying.{Carries, Kept, begun as gone-none, on, gone-by, gone-ends, ends-now, kept-asked, message-carries}
+use Rattle.demands.proofs.Carrying.{reply-windows, reply-request, reply-stops}
 use Rattle.demands.specs.Messages.{InTime, Speaks, begins, grows}
 use Rattle.demands.proofs.Tiling.{sum-is}
 use Rattle.demands.proofs.Listening.{Bytes, byte-longer, begins-longer, alone-is}
 use Rattle.demands.proofs.Saying.{Each, each-none, each-one, each-both}
-use Rattle.demands.proofs.Turns.{same-is, has-side, first-early, first-stray, first-head, later-elsewhere}
+use Rattle.demands.proofs.Reasons.{same-is, has-side, first-early, first-stray, first-head, later-elsewhere}
 use Rattle.demands.proofs.Going.{Fits, Holds, Opened, At, Told, plain, turned}
-use Rattle.demands.proofs.Ending.{Ends, still-up, over}
+use Rattle.demands.proofs.Closing.{Ends, still-up, over}
 
 -- ---- small laws
 pub within : (n : ℕ) (l : List ℕ) (x : ℕ) (xs : List ℕ) → drop n l ≡ x ∷ xs → n ≤ length l

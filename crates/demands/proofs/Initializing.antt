@@ -40,7 +40,7 @@ use Rattle.demands.specs.Refusals.{Not}
 use Rattle.demands.specs.Histories.{after, reportsTo, isAmong, Says, Tells}
 use Rattle.demands.specs.Endings.{Starter, NotIdle, WrongLow, Starting, starts, goes-on}
 use Rattle.demands.proofs.Tiling.{moved-phase}
-use Rattle.demands.proofs.Phases.{In, carried, left-alone, shut-out, slow-in, slow-starts, fast-in, fast-starts, start-goes, start-ends, start-in, byte-in, byte-starts, stop-in}
+use Rattle.demands.proofs.Entering.{In, carried, left-alone, shut-out, slow-in, slow-starts, fast-in, fast-starts, start-goes, start-ends, start-in, byte-in, byte-starts, stop-in}
 use Rattle.demands.proofs.Completing.{says-completes}
 use Rattle.demands.proofs.Becomes.{completes-becomes}
 use Rattle.demands.proofs.Exactly.{link-taken, link-refused, reports-taken}
@@ -50,7 +50,7 @@ use Rattle.demands.proofs.Passing.{Over, Idled}
 use Rattle.demands.proofs.Acting.{byte-tells}
 use Rattle.demands.proofs.Causes.{Closer, Fails, runs-out, closes, low, wrong, of-fail, of-outside, of-down, of-over, of-closed, of-idle, leftBy}
 use Rattle.demands.proofs.Causes.{IsDown, was-starting, still-starting, was-down, is-down, by-acting, over-made, idles-made, closed-made, outside-made, long-of, left-at, tells-caused, says-caused, made-at, says-made}
-use Rattle.demands.proofs.Endings.{wrong-low, mark-not-idle, mark-idle}
+use Rattle.demands.proofs.Leaving.{wrong-low, mark-not-idle, mark-idle}
 
 -- ---- kinds apart
 -- A, W and D

@@ -21,7 +21,7 @@ use Rattle.link.specs.Stepping.{stepOf}
 use Rattle.demands.specs.Logs.{Log, none, _▷_, heardOf, heardIn, numberAfter, takenOf, InBytes, Begins, whole, more}
 use Rattle.demands.specs.Histories.{after, reportsOf}
 use Rattle.demands.specs.Accounts.{allNamed}
-use Rattle.demands.proofs.Kept.{kept-of}
+use Rattle.demands.proofs.Invariant.{kept-of}
 use Rattle.demands.proofs.Basics.{basics}
 use Rattle.demands.proofs.Naming.{tiled-names}
 

@@ -32,9 +32,9 @@ use Rattle.demands.specs.Histories.{after, answerTo}
 use Rattle.demands.specs.Connecting.{Since, here, tick, byte, Connects, Connected}
 use Rattle.demands.proofs.Holding.{Holds}
 use Rattle.demands.proofs.Tiling.{passed-heard, shut-heard, passed-flows, shut-none, sum-is}
-use Rattle.demands.proofs.Kept.{timely, kept-of}
+use Rattle.demands.proofs.Invariant.{timely, kept-of}
 use Rattle.demands.proofs.Basics.{basics, answer-taken}
-use Rattle.demands.proofs.Phases.{Open}
+use Rattle.demands.proofs.Entering.{Open}
 use Rattle.demands.proofs.Completing.{connecting, completes-run}
 use Rattle.demands.proofs.Running.{startOn, phaseOn, lastEnd, Starts, Runs, Behind, Inv, open-early, back-start, back-open, back-tick}
 use Rattle.demands.proofs.Running.{back-byte, no-since, completes-of}

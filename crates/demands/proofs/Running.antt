@@ -26,8 +26,8 @@ use Rattle.link.specs.declared.Link.{Link}
 use Rattle.demands.specs.Logs.{Log, none, _▷_, markOf}
 use Rattle.demands.specs.Connecting.{Since, here, tick, byte}
 use Rattle.demands.proofs.Tiling.{moved-phase}
-use Rattle.demands.proofs.Phases.{In, Open, carried, left-alone, passed-in, passed-open, shut-out, slow-in, slow-starts, fast-in, fast-starts}
-use Rattle.demands.proofs.Phases.{start-goes, start-in, byte-in, byte-starts, stop-in}
+use Rattle.demands.proofs.Entering.{In, Open, carried, left-alone, passed-in, passed-open, shut-out, slow-in, slow-starts, fast-in, fast-starts}
+use Rattle.demands.proofs.Entering.{start-goes, start-in, byte-in, byte-starts, stop-in}
 use Rattle.demands.proofs.Completing.{Completes, acted-slow, acted-fast, acted-byte, acted-tick, acted-drop}
 
 -- ---- the initialization that an event starts, and how far the bytes behind it bring it

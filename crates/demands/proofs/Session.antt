@@ -16,7 +16,7 @@ use Rattle.demands.specs.Logs.{Log, none, _▷_, InBytes}
 use Rattle.demands.specs.Histories.{after, reportsTo, Says}
 use Rattle.demands.specs.Sessions.{Talk, Session, opens, lasts, IsIn, SomeSession}
 use Rattle.demands.proofs.Becomes.{becomes-connected-exactly}
-use Rattle.demands.proofs.Ending.{Ends, still-up, over}
+use Rattle.demands.proofs.Closing.{Ends, still-up, over}
 use Rattle.demands.proofs.Course.{event-ends, session-at}
 
 -- THE LINK OF A SESSION

@@ -49,18 +49,18 @@ use Rattle.demands.specs.Accounts.{namedBy}
 use Rattle.demands.specs.Sessions.{Talk, talkAfter, Session, lasts, inForce, gapBefore}
 use Rattle.demands.specs.Messages.{OpensMessage, InTime, Speaks, begins, refused, waits, grows, EndsInFrame, ReportsFrame}
 use Rattle.demands.proofs.Basics.{basics, answer-taken, answer-refused}
-use Rattle.demands.proofs.Messages.{gone-ends, ends-now}
+use Rattle.demands.proofs.Carrying.{gone-ends, ends-now}
 use Rattle.demands.proofs.Tiling.{sum-is}
 use Rattle.demands.proofs.Completing.{acted-byte, acted-tick}
 use Rattle.demands.proofs.Listening.{Bytes, bytes-both, bytes-one, byte-more, byte-longer, other-more, refused-more, begins-longer}
 use Rattle.demands.proofs.Listening.{alone-named}
 use Rattle.demands.proofs.Recent.{in-time, open-stays}
 use Rattle.demands.proofs.Saying.{among-left, among-right}
-use Rattle.demands.proofs.Turns.{has-side, first-none}
+use Rattle.demands.proofs.Reasons.{has-side, first-none}
 use Rattle.demands.proofs.Going.{Holds, Opened, open-or-quiet}
 use Rattle.demands.proofs.Hearing.{within, grown-side}
 use Rattle.demands.proofs.Course.{AtLink, session-at}
-use Rattle.demands.proofs.Turning.{frames-end}
+use Rattle.demands.proofs.Reporting.{frames-end}
 
 -- ---- a message's bytes, and its session's key bytes
 speaks-good : {t : Talk} {b : Event} {log : Log} {bytes : List ℕ} → InBytes log → Speaks stepOf t b log bytes → goodPair (t .kb1) (t .kb2) ≡ true

@@ -34,7 +34,7 @@ use Rattle.demands.specs.Starts.{Low}
 use Rattle.demands.specs.Sessions.{Talk, Session, inForce, IsIn, gapBefore, SomeSession}
 use Rattle.demands.specs.Endings.{NotIdle, WrongLow, NoReply, IdleOver, Downs}
 use Rattle.demands.proofs.Holding.{holds-some, holds-none}
-use Rattle.demands.proofs.Kept.{kept-of}
+use Rattle.demands.proofs.Invariant.{kept-of}
 use Rattle.demands.proofs.Basics.{basics}
 use Rattle.demands.proofs.Session.{session-link, session-exactly}
 use Rattle.demands.proofs.Passing.{Waited, Idled, Leaves, quiet-is, open-or}

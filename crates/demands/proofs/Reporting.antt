@@ -20,7 +20,7 @@ use Rattle.demands.specs.Sessions.{Talk, Session, Reads, Turns, SomeSess
 use Rattle.demands.specs.Messages.{EndsInFrame}
 use Rattle.demands.proofs.Saying.{Each}
 use Rattle.demands.proofs.Going.{Told}
-use Rattle.demands.proofs.Ending.{Ends, still-up, over}
+use Rattle.demands.proofs.Closing.{Ends, still-up, over}
 use Rattle.demands.proofs.Course.{event-ends, session-at}
 use Rattle.demands.proofs.Session.{session-exactly}
 use Rattle.demands.proofs.Unconnected.{none-unconnected}
