@@ -3,6 +3,7 @@
 -- Assumes nothing.
 use Prim.Native.Nat.{_≤_}
 use mathlib.Core.Bool.{false}
+use native.Mathlib.Omega.{arith}
 use mathlib.Core.Path.{_≡_, sym, ap, _∙_}
 use borrow.Author.Tests.{eq-eqb, ne-eqb}
 use lib.ListN.{length}
@@ -11,8 +12,11 @@ use Rattle.events.specs.declared.Event.{Event}
 use Rattle.phases.specs.Phases.{isStarting, isOpen}
 use Rattle.link.specs.Stepping.{numberOf, refusedBy, takenBy, stepOf}
 use Rattle.demands.specs.Logs.{Log, clockOf, markOf, countOf, heardIn, numberAfter, takenOf}
+use Rattle.listing.specs.Listing.{heldOf}
+use Rattle.demands.specs.Accounts.{heldIn}
 use Rattle.demands.specs.Histories.{after, answerTo, reportsOf}
 use Rattle.demands.proofs.Holding.{holds-order, holds-none}
+use Rattle.demands.proofs.Naming.{tiled-named}
 use Rattle.demands.proofs.Invariant.{kept-of, number-is, taken-answer, refused-answer, number-answered}
 
 pub record Basics (es : Log) : Type 0 where
@@ -67,3 +71,8 @@ numbers-by-history es e = number-answered (after stepOf es .link) (after stepOf 
 pub calm : (es : Log) → isOpen (after stepOf es .link .phase .state) ≡ false → isStarting (after stepOf es .link .phase .state) ≡ false
     → after stepOf es .link .named ≡ after stepOf es .link .heard
 calm es o s = let l = after stepOf es .link in holds-none (l .phase .state) (l .named) (l .heard) o s (kept-of es .holds)
+
+-- the bytes that the link holds are those heard that no report names
+pub held-is : (es : Log) → heldOf (after stepOf es .link) ≡ heldIn stepOf es
+unfolding heldOf heldIn
+held-is es = omega (arith, basics es .heard, tiled-named (kept-of es .tiled))

@@ -32,10 +32,10 @@ use Rattle.events.specs.declared.Side.{Side}
 use Rattle.talk.proofs.Frames.{isMessage, message-reads}
 use Rattle.phases.specs.Phases.{isStarting, isConnected}
 use Rattle.reports.specs.declared.Report.{Report}
-use Rattle.listing.specs.Listing.{heldOf}
 use Rattle.demands.specs.Refusals.{Not}
 use Rattle.demands.specs.Logs.{Log, _▷_, InBytes, numberAfter, takenOf, heardIn}
 use Rattle.demands.specs.Histories.{ourStep, after, answerTo, reportsTo, Says, Among, Tells}
+use Rattle.demands.specs.Accounts.{heldIn}
 use Rattle.demands.specs.Connecting.{Connects, Connected}
 use Rattle.demands.specs.Sessions.{Talk, Session, SomeSession, IsIn, Reads, Turns, gapBefore}
 use Rattle.demands.specs.Endings.{Starter, NotIdle, WrongLow, NoReply, Starting, AnswersStop, Downs}
@@ -149,7 +149,7 @@ stops-exactly = reporting.stops-exactly
 -- Report 6, in a session, exactly if a first reply is awaited and P2 max has passed.
 pub no-reply-exactly : (es : Log) (e : Event) (t : Talk) → InBytes es → Session ourStep es t
     → Says noReplyReport (reportsTo ourStep es e)
-    ↔ ((numberAfter (takenOf es) e ≡ taken) × NoReply t (heldOf (after ourStep es .link)) (gapBefore (takenOf es) e))
+    ↔ ((numberAfter (takenOf es) e ≡ taken) × NoReply t (heldIn ourStep es) (gapBefore (takenOf es) e))
 no-reply-exactly = leaving.no-reply-exactly
 
 -- Outside a session there is neither.

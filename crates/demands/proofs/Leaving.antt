@@ -32,10 +32,11 @@ use Rattle.demands.specs.Refusals.{Not}
 use Rattle.demands.specs.Histories.{after, reportsTo, Says, Tells}
 use Rattle.demands.specs.Starts.{Low}
 use Rattle.demands.specs.Sessions.{Talk, Session, inForce, IsIn, gapBefore, SomeSession}
+use Rattle.demands.specs.Accounts.{heldIn}
 use Rattle.demands.specs.Endings.{NotIdle, WrongLow, NoReply, IdleOver, Downs}
 use Rattle.demands.proofs.Holding.{holds-some, holds-none}
 use Rattle.demands.proofs.Invariant.{kept-of}
-use Rattle.demands.proofs.Basics.{basics}
+use Rattle.demands.proofs.Basics.{basics, held-is}
 use Rattle.demands.proofs.Session.{session-link, session-exactly}
 use Rattle.demands.proofs.Passing.{Waited, Idled, Leaves, quiet-is, open-or}
 use Rattle.demands.proofs.Acting.{quiet-shut}
@@ -133,7 +134,7 @@ module _ (es : Log) (e : Event) (t : Talk) (b : InBytes es) (s : Session stepOf 
   l = after stepOf es .link
 
   abbrev held : ℕ
-  held = heldOf l
+  held = heldIn stepOf es
 
   abbrev gap : Micros
   gap = gapBefore (takenOf es) e
@@ -144,6 +145,7 @@ module _ (es : Log) (e : Event) (t : Talk) (b : InBytes es) (s : Session stepOf 
   quiet-holds : isQuiet (l .phase .state) ≡ true → held ≡ 0
   unfolding heldOf
   quiet-holds q =
+      let i = held-is es in
       let x = quiet-shut (l .phase .state) q in
       let n = holds-none (l .phase .state) (l .named) (l .heard) (x .0) (x .1) (kept-of es .holds) in
       omega arith
@@ -151,6 +153,7 @@ module _ (es : Log) (e : Event) (t : Talk) (b : InBytes es) (s : Session stepOf 
   holds-quiet : held ≡ 0 → isQuiet (l .phase .state) ≡ true
   unfolding heldOf
   holds-quiet z =
+      let i = held-is es in
       open-or (isQuiet (l .phase .state) ≡ true) (l .phase .state) (is-in .connected)
       (λ o. let n = holds-some (l .phase .state) (l .named) (l .heard) o (kept-of es .holds) in absurd (omega arith)) (λ q. q)
 
@@ -184,7 +187,7 @@ module _ (es : Log) (e : Event) (t : Talk) (b : InBytes es) (s : Session stepOf 
 -- NO REPLY
 pub no-reply-exactly : (es : Log) (e : Event) (t : Talk) → InBytes es → Session stepOf es t
     → Says noReplyReport (reportsTo stepOf es e)
-    ↔ ((numberAfter (takenOf es) e ≡ taken) × NoReply t (heldOf (after stepOf es .link)) (gapBefore (takenOf es) e))
+    ↔ ((numberAfter (takenOf es) e ≡ taken) × NoReply t (heldIn stepOf es) (gapBefore (takenOf es) e))
 no-reply-exactly es e t b s = (
   λ x.
       let c = says-caused es e noReplyReport x .caused in
@@ -198,10 +201,10 @@ module _ (es : Log) (e : Event) (t : Talk) (b : InBytes es) (s : Session stepOf 
   here = after stepOf es .link
 
   -- what time leaves connected: P3 max has not passed
-  stays-up : isConnected (leftBy here e .phase .state) ≡ true → Not (IdleOver t (heldOf here) (gapBefore (takenOf es) e))
+  stays-up : isConnected (leftBy here e .phase .state) ≡ true → Not (IdleOver t (heldIn stepOf es) (gapBefore (takenOf es) e))
   stays-up c i = was-connected (here .phase) (here .mark) (e .start) _ (left-at es e) c .1 (idled-is es e t b s .1 i)
 
-  up-stays : Not (IdleOver t (heldOf here) (gapBefore (takenOf es) e)) → isConnected (leftBy here e .phase .state) ≡ true
+  up-stays : Not (IdleOver t (heldIn stepOf es) (gapBefore (takenOf es) e)) → isConnected (leftBy here e .phase .state) ≡ true
   up-stays n =
       still-connected (here .phase) (here .mark) (e .start) _ (left-at es e) (session-link es t b s .connected) (λ i. n (idled-is es e t b s .0 i))
 

@@ -9,7 +9,7 @@ use native.Mathlib.Omega.{arith}
 use lib.ListN.{take, drop}
 use lib.Seq.{drop-drop, take-add}
 use Rattle.reports.specs.declared.Report.{Report}
-use Rattle.demands.specs.Accounts.{namedBy, allNamed, InTurn}
+use Rattle.demands.specs.Accounts.{namedBy, allNamed, InTurn, namedIn}
 use Rattle.demands.proofs.Tiling.{Tiled, end, next}
 
 pub tiled-turns : {n m : ℕ} {xs : List Report} → Tiled n xs m → InTurn n xs
@@ -31,3 +31,9 @@ unfolding allNamed namedBy
 tiled-names heard (end {n = n}) = rw (sub-self n)
 tiled-names heard (next {n = n} {m = m} {x = x} e f t) =
     rw (e, tiled-names heard t) (joined n (x .bytes) m heard (tiled-order t))
+
+-- how many they name
+pub tiled-named : {n m : ℕ} {xs : List Report} → Tiled n xs m → n + namedIn xs ≡ m
+unfolding namedIn
+tiled-named end = omega arith
+tiled-named (next e f t) = omega (arith, tiled-named t)

@@ -53,16 +53,28 @@ countsOf heard rs = record {
   damages = reportsIn damageReport rs;
 }
 
+-- how many bytes reports name
+unfoldable pub namedIn : List Report → ℕ
+namedIn [] = 0
+namedIn (r ∷ rs) = r .bytes + namedIn rs
+
+-- "Bytes held are those of the open message, damage or initialization that no report has named yet": how many were heard and not named
+unfoldable pub heldIn : Step → Log → ℕ
+heldIn step es = length (heardIn es) - namedIn (reportsOf step es)
+
 -- DEMAND 3 of a step, after the events es
 pub record Accounted (step : Step) (es : Log) : Type 0 where
   -- "the bytes the reports name, in order, followed by those held, are the bytes heard, each once"
-  pub bytes : allNamed (heardIn es) (reportsOf step es) ++ lastOf (heldOf (after step es .link)) (heardIn es) ≡ heardIn es
-  -- the first index of each is the number of bytes named before it
+  pub bytes : allNamed (heardIn es) (reportsOf step es) ++ lastOf (heldIn step es) (heardIn es) ≡ heardIn es
+  -- none is named before it is heard
+  pub heard : namedIn (reportsOf step es) ≤ length (heardIn es)
+  -- the first index of each report is the number of bytes named before it
   pub indexes : InTurn 0 (reportsOf step es)
   -- "every count equals the one worked out from that history"
   pub counts : after step es .counts ≡ countsOf (heardIn es) (reportsOf step es)
+  -- the bytes that the link holds, and an end line shows, are as many
+  pub held : heldOf (after step es .link) ≡ heldIn step es
+  -- none is held while neither a message, nor damage, nor an initialization is open
+  pub idle : isOpen (after step es .link .phase .state) ≡ false → isStarting (after step es .link .phase .state) ≡ false → heldIn step es ≡ 0
   -- "At most three per event."
   pub three : (e : Event) → answerTo step es e .reports .n ≤ 3
-  -- no more bytes are held than were heard, and none while neither a message, nor damage, nor an initialization is open
-  pub held : heldOf (after step es .link) ≤ length (heardIn es)
-  pub idle : isOpen (after step es .link .phase .state) ≡ false → isStarting (after step es .link .phase .state) ≡ false → heldOf (after step es .link) ≡ 0

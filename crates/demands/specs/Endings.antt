@@ -17,12 +17,11 @@ use Rattle.events.specs.declared.Side.the-variants.{Unit}
 use Rattle.events.specs.declared.Event.{Event}
 use Rattle.talk.specs.declared.Reply.the-variants.{First}
 use Rattle.reports.specs.declared.Report.{Report}
-use Rattle.listing.specs.Listing.{heldOf}
 use Rattle.demands.specs.Logs.{Log, _▷_, markOf, numberAfter, takenOf, heardIn}
 use Rattle.demands.specs.Refusals.{Not}
-use Rattle.demands.specs.Histories.{Step, after, reportsTo, Says, Among, Tells}
+use Rattle.demands.specs.Histories.{Step, reportsTo, Says, Among, Tells}
 use Rattle.demands.specs.Starts.{Low}
-use Rattle.demands.specs.Accounts.{namedBy}
+use Rattle.demands.specs.Accounts.{namedBy, heldIn}
 use Rattle.demands.specs.Sessions.{Frames, stops, pendingIn, Talk, inForce, gapBefore}
 
 -- A or W
@@ -74,8 +73,8 @@ AnswersStop step t es e = Answers (t .kb1) (t .kb2) (t .frames) (e .side) (heard
 -- stop that the unit answers
 pub record Downs (step : Step) (es : Log) (e : Event) (t : Talk) : Type 0 where
   pub idle : Tells downReport idleOver (reportsTo step es e)
-      ↔ ((numberAfter (takenOf es) e ≡ taken) × IdleOver t (heldOf (after step es .link)) (gapBefore (takenOf es) e))
+      ↔ ((numberAfter (takenOf es) e ≡ taken) × IdleOver t (heldIn step es) (gapBefore (takenOf es) e))
   pub dropped : Tells downReport dropped (reportsTo step es e)
-      ↔ ((numberAfter (takenOf es) e ≡ taken) × (e .kind ≡ Drop) × Not (IdleOver t (heldOf (after step es .link)) (gapBefore (takenOf es) e)))
+      ↔ ((numberAfter (takenOf es) e ≡ taken) × (e .kind ≡ Drop) × Not (IdleOver t (heldIn step es) (gapBefore (takenOf es) e)))
   pub restarted : Tells downReport restarted (reportsTo step es e)
-      ↔ ((numberAfter (takenOf es) e ≡ taken) × Starter e × Not (IdleOver t (heldOf (after step es .link)) (gapBefore (takenOf es) e)))
+      ↔ ((numberAfter (takenOf es) e ≡ taken) × Starter e × Not (IdleOver t (heldIn step es) (gapBefore (takenOf es) e)))
