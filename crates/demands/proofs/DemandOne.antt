@@ -63,7 +63,7 @@ pub some-event-taken : ourStep freshLink zeroCounts someEvent .answer .no ≡ 0
 unfolding stepOf numberOf refusal isUnknown isOther isByte isNobody isTooLate isOutOfOrder isFull freshLink zeroCounts
 some-event-taken = number-answered freshLink zeroCounts someEvent
 
--- And all 26 of these: document 01's example, a request for new timing, and its reply.
+-- And all 26 of these: the initialization of document 01's example, a request for new timing, and its reply.
 pub example-taken : after ourStep retiming .link .taken ≡ 26
 example-taken = computed .ours-taken
 

@@ -26,47 +26,47 @@ use Rattle.demands.proofs.Names.{connects-names}
 abbrev pub byteFrom : Side → ℕ → ℕ → Event
 byteFrom side v start = record { start = micros start; end = micros (start + 960); kind = Byte; side = side; value = v }
 
-abbrev pub t : ℕ → ℕ → Event
-t v start = byteFrom Tester v start
+abbrev pub tester : ℕ → ℕ → Event
+tester v start = byteFrom Tester v start
 
-abbrev pub e : ℕ → ℕ → Event
-e v start = byteFrom Unit v start
+abbrev pub unit : ℕ → ℕ → Event
+unit v start = byteFrom Unit v start
 
 -- ---- FAST: "`W 300000 325000`; t bytes 81 11 F1 81 04 from 350000, each 960 long, a gap of 5000 between; e bytes 83 F1 11 C1 EF 8F C4 from 404800,
 -- each 960 long, no gap"
-abbrev pub w : Event
-w = record { start = micros 300_000; end = micros 325_000; kind = WakeUp; side = Nobody; value = 0 }
+abbrev pub wakeUp : Event
+wakeUp = record { start = micros 300_000; end = micros 325_000; kind = WakeUp; side = Nobody; value = 0 }
 
 abbrev pub fastBytes : Log
-fastBytes = none ▷ t 0x81 350_000 ▷ t 0x11 355_960 ▷ t 0xF1 361_920 ▷ t 0x81 367_880 ▷ t 0x04 373_840
-    ▷ e 0x83 404_800 ▷ e 0xF1 405_760 ▷ e 0x11 406_720 ▷ e 0xC1 407_680 ▷ e 0xEF 408_640 ▷ e 0x8F 409_600
+fastBytes = none ▷ tester 0x81 350_000 ▷ tester 0x11 355_960 ▷ tester 0xF1 361_920 ▷ tester 0x81 367_880 ▷ tester 0x04 373_840
+    ▷ unit 0x83 404_800 ▷ unit 0xF1 405_760 ▷ unit 0x11 406_720 ▷ unit 0xC1 407_680 ▷ unit 0xEF 408_640 ▷ unit 0x8F 409_600
 
 abbrev pub fastEvents : Log
-fastEvents = none ▷ w ▷ t 0x81 350_000 ▷ t 0x11 355_960 ▷ t 0xF1 361_920 ▷ t 0x81 367_880 ▷ t 0x04 373_840
-    ▷ e 0x83 404_800 ▷ e 0xF1 405_760 ▷ e 0x11 406_720 ▷ e 0xC1 407_680 ▷ e 0xEF 408_640 ▷ e 0x8F 409_600
+fastEvents = none ▷ wakeUp ▷ tester 0x81 350_000 ▷ tester 0x11 355_960 ▷ tester 0xF1 361_920 ▷ tester 0x81 367_880 ▷ tester 0x04 373_840
+    ▷ unit 0x83 404_800 ▷ unit 0xF1 405_760 ▷ unit 0x11 406_720 ▷ unit 0xC1 407_680 ▷ unit 0xEF 408_640 ▷ unit 0x8F 409_600
 
 abbrev pub fastLast : Event
-fastLast = e 0xC4 410_560
+fastLast = unit 0xC4 410_560
 
-pub fast-good : FastStart w 0xEF 0x8F (fastBytes ▷ fastLast)
+pub fast-good : FastStart wakeUp 0xEF 0x8F (fastBytes ▷ fastLast)
 unfolding goodPair lengthInFormat extraLength noAddresses withAddresses
 fast-good =
-    fast {service = e 0xC1 407_680} {one = e 0xEF 408_640} {two = e 0x8F 409_600} {sum = fastLast}
-    (addressed {f = e 0x83 404_800} {t = e 0xF1 405_760} {s = e 0x11 406_720}
-    (request {f = t 0x81 350_000} {t = t 0x11 355_960} {s = t 0xF1 361_920} {d = t 0x81 367_880} {c = t 0x04 373_840}
+    fast {service = unit 0xC1 407_680} {one = unit 0xEF 408_640} {two = unit 0x8F 409_600} {sum = fastLast}
+    (addressed {f = unit 0x83 404_800} {t = unit 0xF1 405_760} {s = unit 0x11 406_720}
+    (request {f = tester 0x81 350_000} {t = tester 0x11 355_960} {s = tester 0xF1 361_920} {d = tester 0x81 367_880} {c = tester 0x04 373_840}
     refl (omega arith, omega arith) (refl, (omega arith, omega arith), inl refl) (refl, (omega arith, omega arith)) (refl, (omega arith, omega arith))
     (refl, (omega arith, omega arith)) refl (refl, (omega arith, omega arith)) refl)
     (refl, (omega arith, omega arith)) refl (refl, (omega arith, omega arith)) (refl, (omega arith, omega arith)))
     (refl, (omega arith, omega arith)) refl (refl, (omega arith, omega arith)) refl (refl, (omega arith, omega arith)) refl
     (refl, (omega arith, omega arith)) refl refl
 
-pub fast-idle : markOf none .0 + 300_000 ≤ w .start .0
+pub fast-idle : markOf none .0 + 300_000 ≤ wakeUp .start .0
 unfolding markOf
 fast-idle = omega arith
 
 abbrev pub fast-connects : Connects fastEvents fastLast
 fast-connects = record {
-  start = w;
+  start = wakeUp;
   before = none;
   bytes = fastBytes;
   kb1 = 0xEF;
@@ -81,35 +81,35 @@ fast-connects = record {
 abbrev pub address : ℕ → ℕ → ℕ → Event
 address v start end = record { start = micros start; end = micros end; kind = Address; side = Nobody; value = v }
 
-abbrev pub a : Event
-a = address 0x33 3_000_000 5_000_000
+abbrev pub asked : Event
+asked = address 0x33 3_000_000 5_000_000
 
 abbrev pub slowBefore : Log
 slowBefore = none ▷ address 0x11 300_000 2_300_000
 
 abbrev pub slowBytes : Log
-slowBytes = none ▷ e 0x55 5_100_000 ▷ e 0xEF 5_110_960 ▷ e 0x8F 5_116_920 ▷ t 0x70 5_147_880
+slowBytes = none ▷ unit 0x55 5_100_000 ▷ unit 0xEF 5_110_960 ▷ unit 0x8F 5_116_920 ▷ tester 0x70 5_147_880
 
 abbrev pub slowEvents : Log
-slowEvents = slowBefore ▷ a ▷ e 0x55 5_100_000 ▷ e 0xEF 5_110_960 ▷ e 0x8F 5_116_920 ▷ t 0x70 5_147_880
+slowEvents = slowBefore ▷ asked ▷ unit 0x55 5_100_000 ▷ unit 0xEF 5_110_960 ▷ unit 0x8F 5_116_920 ▷ tester 0x70 5_147_880
 
 abbrev pub slowLast : Event
-slowLast = e 0xCC 5_178_840
+slowLast = unit 0xCC 5_178_840
 
-pub slow-good : SlowStart a 0xEF 0x8F (slowBytes ▷ slowLast)
+pub slow-good : SlowStart asked 0xEF 0x8F (slowBytes ▷ slowLast)
 unfolding goodPair lengthInFormat extraLength noAddresses withAddresses
 slow-good =
-    slow {sync = e 0x55 5_100_000} {one = e 0xEF 5_110_960} {two = e 0x8F 5_116_920} {back = t 0x70 5_147_880} {done = slowLast}
+    slow {sync = unit 0x55 5_100_000} {one = unit 0xEF 5_110_960} {two = unit 0x8F 5_116_920} {back = tester 0x70 5_147_880} {done = slowLast}
     refl (refl, (omega arith, omega arith), refl) (refl, (omega arith, omega arith), refl) (refl, (omega arith, omega arith), refl, refl)
     (refl, (omega arith, omega arith), refl) (refl, (omega arith, omega arith), refl)
 
-pub slow-idle : markOf slowBefore .0 + 300_000 ≤ a .start .0
+pub slow-idle : markOf slowBefore .0 + 300_000 ≤ asked .start .0
 unfolding markOf marks
 slow-idle = omega arith
 
 abbrev pub slow-connects : Connects slowEvents slowLast
 slow-connects = record {
-  start = a;
+  start = asked;
   before = slowBefore;
   bytes = slowBytes;
   kb1 = 0xEF;

@@ -32,32 +32,34 @@ use Rattle.demands.specs.Wrong.{refusing, outside, unchanged, idling, in
 use Rattle.demands.proofs.Computed.{tick, twoBytes, retiming, is-fair, computed}
 
 -- ---- DEMAND 3 SHUTS OUT ..
-abbrev pub DemandThree : Step → Type 0
-DemandThree step = (es : Log) → Accounted step es
+-- the statement `demand-three`, of any step
+abbrev pub Accounts : Step → Type 0
+Accounts step = (es : Log) → Accounted step es
 
 -- .. a step that leaves the link unchanged: two bytes are both reported with index 0
-pub unchanged-shut : DemandThree unchanged → ⊥
+pub unchanged-shut : Accounts unchanged → ⊥
 unchanged-shut d = false≢true (sym (computed .of-unchanged) ∙ is-fair unchanged twoBytes (d twoBytes))
 
 -- .. a link that finishes on its first event and idles later: of two bytes heard it has counted one
-pub idling-shut : DemandThree idling → ⊥
+pub idling-shut : Accounts idling → ⊥
 idling-shut d = false≢true (sym (computed .of-idling) ∙ is-fair idling twoBytes (d twoBytes))
 
 -- .. a link that shows invented counts: after a tick it counts seven bytes
-pub inventing-shut : DemandThree inventing → ⊥
+pub inventing-shut : Accounts inventing → ⊥
 inventing-shut d = false≢true (sym (computed .of-inventing) ∙ is-fair inventing (none ▷ tick) (d (none ▷ tick)))
 
 -- .. a link whose frame count is one behind after a timing change
-pub behind-shut : DemandThree behind → ⊥
+pub behind-shut : Accounts behind → ⊥
 behind-shut d = false≢true (sym (computed .of-behind) ∙ is-fair behind retiming (d retiming))
 
 -- .. and a link that lists the reply twice that changes its timing
-pub twice-shut : DemandThree twice → ⊥
+pub twice-shut : Accounts twice → ⊥
 twice-shut d = false≢true (sym (computed .of-twice) ∙ is-fair twice retiming (d retiming))
 
 -- ---- DEMAND 1 SHUTS OUT a link that refuses everything: a fresh link takes a tick
-abbrev pub DemandOne : Step → Type 0
-DemandOne step = (l : Link) (c : Counts) (e : Event) → Numbered (l .clock) (l .taken) c e (step l c e .answer .no)
+-- (the statement `numbered`, of any step)
+abbrev pub Numbers : Step → Type 0
+Numbers step = (l : Link) (c : Counts) (e : Event) → Numbered (l .clock) (l .taken) c e (step l c e .answer .no)
 
 under : {A : Type 0} → (4_000_000_000 < 0) ⊎ A → (A → ⊥) → ⊥
 under u f = ⊎-elim (λ h. omega arith) f u
@@ -66,7 +68,7 @@ no-count-above : Above zeroCounts → ⊥
 unfolding zeroCounts
 no-count-above u = under u (λ v. under v (λ w. under w (λ x. under x (λ y. under y (λ z. under z (λ h. omega arith))))))
 
-pub refusing-shut : DemandOne refusing → ⊥
+pub refusing-shut : Numbers refusing → ⊥
 unfolding freshLink zeroCounts refusedBy isOther isByte
 refusing-shut d =
     let n = d freshLink zeroCounts tick in
@@ -78,15 +80,16 @@ refusing-shut d =
     )))
 
 -- ---- DEMAND 2 SHUTS OUT a link that reports each byte as outside: it never says that it is connected
-abbrev pub DemandTwo : Step → Type 0
-DemandTwo step = (es : Log) (e : Event) → Says connectedReport (reportsTo step es e) ↔ ((numberAfter (takenOf es) e ≡ taken) × Connects (takenOf es) e)
+-- (the statement `connects-exactly`, of any step)
+abbrev pub ConnectsRight : Step → Type 0
+ConnectsRight step = (es : Log) (e : Event) → Says connectedReport (reportsTo step es e) ↔ ((numberAfter (takenOf es) e ≡ taken) × Connects (takenOf es) e)
 
 no-three : (b : Bool) (l : Link) (c : Counts) (e : Event) → eqb (numberOf l c e) taken ≡ b → isAmong connectedReport (listed (outside l c e .answer .reports)) ≡ false
 unfolding isAmong listed appended stepOf answerOf refusedBy
 no-three true l c e q = rw q (by-test (λ (rs : Reports). isAmong connectedReport (listed rs) ≡ false) (isByte (e .kind)) (λ t. refl) (λ t. refl))
 no-three false l c e q = rw q
 
-pub outside-shut : DemandTwo outside → ⊥
+pub outside-shut : ConnectsRight outside → ⊥
 unfolding takenOf numberAfter clockOf countOf refusal isUnknown isTooLate isOutOfOrder isOther isByte isNobody
 outside-shut d =
     let h = after outside fastEvents in

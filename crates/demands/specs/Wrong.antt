@@ -47,7 +47,7 @@ withFrames s frames = record {
 abbrev pub refusing : Link → Counts → Event → Stepped
 refusing l c e = record { answer = refusedBy l tooMany; counts = c }
 
--- "one reporting each byte as outside": it takes what is to be taken, and its account is right
+-- "one reporting each byte as outside": it takes what is to be taken, and names and counts each byte
 abbrev outsideOnly : Link → Event → Reports
 outsideOnly l e =
     if isByte (e .kind) then appended noReports (record { first = l .heard; bytes = 1; time = e .end; number = outsideReport; reason = noReason }) else noReports
