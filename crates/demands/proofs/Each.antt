@@ -4,7 +4,7 @@
 use Prim.Native.Nat.{ℕ, _+_, _≤_, _<_}
 use mathlib.Core.Bool.{Bool, true, false, not, _&&_, _||_, false≢true}
 use mathlib.Core.List.{List, [], _∷_, _++_}
-use mathlib.Core.Path.{_≡_, refl, sym, ap, _∙_, subst}
+use mathlib.Core.Path.{_≡_, refl, sym, _∙_, subst}
 use mathlib.Core.Logic.{_⊎_, inl, inr, ⊎-elim}
 use native.Mathlib.Omega.{arith}
 use borrow.Author.Tests.{eqb-true, eqb-false, not-true}
@@ -54,13 +54,12 @@ use Rattle.link.proofs.Three.{tells, passedTells, shutTells, byteTells, actedTe
 use Rattle.demands.specs.Logs.{Log, none, _▷_, numberAfter, takenOf, InBytes}
 use Rattle.demands.specs.Histories.{after, reportsTo, Says, Among}
 use Rattle.demands.specs.Sessions.{SomeSession}
-use Rattle.demands.specs.Endings.{WrongLow}
-use Rattle.demands.specs.Endings.{Starting as InStart}
+use Rattle.demands.specs.Endings.{Starting as InStart, WrongLow}
 use Rattle.demands.specs.Each.{Formed}
 use Rattle.demands.proofs.Holding.{Holds, holds-order, holds-some, Goes}
 use Rattle.demands.proofs.Holding.{silence-goes, p2-goes, p3-goes, window-goes, closing-goes, leaving-goes, slow-goes, fast-goes, byte-goes, stop-goes}
-use Rattle.demands.proofs.Tiling.{moved-flows, moved-phase, moved-heard, HoldsIn, passed-heard, shut-none, sum-is}
-use Rattle.demands.proofs.Invariant.{timely, kept-of}
+use Rattle.demands.proofs.Tiling.{moved-flows, moved-phase, HoldsIn, passed-heard, shut-none, sum-is}
+use Rattle.demands.proofs.Invariant.{kept-of}
 use Rattle.demands.proofs.Exactly.{link-taken, link-refused}
 use Rattle.demands.proofs.Saying.{Each, each-none, each-one, each-both}
 use Rattle.demands.proofs.Session.{session-exactly}
@@ -193,7 +192,7 @@ formed e r number reason t busy = record {
   one = λ z. absurd (omega arith);
 }
 
--- ---- the reason of damage that is being skipped
+-- ---- damage that is being skipped has a reason: early, the first of those that a byte gives, up to a wrong checksum, the last
 abbrev Lost : ℕ → Type 0
 Lost k = (1 ≤ k) × (k ≤ 9)
 

@@ -1,4 +1,4 @@
--- What each report of an event says, whatever the events before it (document 01, "Events and what the link does"). That every report of the link does
+-- What each report of an event says, whatever the events before it (document 01, "Events and what the link does"). That every report of the link says so
 -- is proved in proofs/Each.antt.
 -- Assumes nothing.
 use Prim.Native.Nat.{_≤_}
