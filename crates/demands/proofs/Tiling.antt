@@ -128,7 +128,7 @@ module _ (r : Run) (m : Move) where
       let f = report-fair r (m .number) (m .reason) e (λ t. absurd (false≢true (sym k ∙ some-names r (m .number) (m .reason) t))) in
       rw (e, k) (record { tiled = names-none r (m .number) (m .reason) f k (g .1); holds = rw (g .1) (g .0) })
 
-  moved-flows : r .named ≤ r .heard → Goes (r .named) (r .heard) m → Flows r (moved r m) (tells r m)
+  pub moved-flows : r .named ≤ r .heard → Goes (r .named) (r .heard) m → Flows r (moved r m) (tells r m)
   moved-flows o g = flows-by (eqb (m .number) 0) (namesBytes (m .number)) (ofSome (m .number)) refl refl refl o g
 
   pub moved-heard : moved r m .heard ≡ r .heard
