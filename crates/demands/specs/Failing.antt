@@ -48,47 +48,48 @@ pub record UnderWay (log : Log) : Type 0 where
   pub since : Since start before log bytes
 
 module _ {log : Log} (u : UnderWay log) where
-  abbrev pub so-far : Start
-  so-far = comeTo (u .start) (u .bytes)
+  -- what it has come to, and the time that the next byte's window runs from
+  abbrev pub soFar : Start
+  soFar = comeTo (u .start) (u .bytes)
 
   abbrev pub from : Micros
   from = dueFrom (u .start) (u .bytes)
 
   -- "In initialization, the present window's end passed". "'Passed' is strict".
   abbrev pub WindowOver : Event → Type 0
-  WindowOver e = from .0 + dueAt (so-far .stage) .latest .0 < e .start .0
+  WindowOver e = from .0 + dueAt (soFar .stage) .latest .0 < e .start .0
 
   -- "Check side (reason 4), early (5), value or structure (6), in that order; key pair and checksum belong to 6."
   abbrev pub SideDue : Event → Type 0
-  SideDue e = e .side ≡ dueAt (so-far .stage) .side
+  SideDue e = e .side ≡ dueAt (soFar .stage) .side
 
   abbrev pub TooEarly : Event → Type 0
-  TooEarly e = e .start .0 < from .0 + dueAt (so-far .stage) .earliest .0
+  TooEarly e = e .start .0 < from .0 + dueAt (soFar .stage) .earliest .0
 
   abbrev pub ValueFits : Event → Type 0
-  ValueFits e = fits so-far (e .value) ≡ true
+  ValueFits e = fits soFar (e .value) ≡ true
 
-  -- the byte is due and is the initialization's last, or not
   abbrev pub AllRight : Event → Type 0
   AllRight e = SideDue e × Not (TooEarly e) × ValueFits e
 
+  -- the byte that is due is the initialization's last
   abbrev pub endsHere : Bool
-  endsHere = isLast (so-far .stage)
+  endsHere = isLast (soFar .stage)
 
 -- a byte that is taken and finds the initialization with its window open
-abbrev pub HeardIn : (es : Log) → UnderWay (takenOf es) → Event → Type 0
-HeardIn es u e = (numberAfter (takenOf es) e ≡ taken) × (e .kind ≡ Byte) × Not (WindowOver u e)
+abbrev pub ByteInTime : (es : Log) → UnderWay (takenOf es) → Event → Type 0
+ByteInTime es u e = (numberAfter (takenOf es) e ≡ taken) × (e .kind ≡ Byte) × Not (WindowOver u e)
 
 -- HOW THE INITIALIZATION THAT IS UNDER WAY FAILS, by the reasons of report 4, and how it goes on and ends. (Reason 2 is `closed-start-exactly`.)
 pub record Fails (step : Step) (es : Log) (e : Event) (u : UnderWay (takenOf es)) : Type 0 where
   -- "the present window's end passed: report 4 reason 1"
   pub over : Tells failedReport windowOver (reportsTo step es e) ↔ ((numberAfter (takenOf es) e ≡ taken) × WindowOver u e)
   -- "side (reason 4), early (5), value or structure (6), in that order"
-  pub side : Tells failedReport wrongSide (reportsTo step es e) ↔ (HeardIn es u e × Not (SideDue u e))
-  pub early : Tells failedReport tooEarly (reportsTo step es e) ↔ (HeardIn es u e × SideDue u e × TooEarly u e)
-  pub value : Tells failedReport misfit (reportsTo step es e) ↔ (HeardIn es u e × SideDue u e × Not (TooEarly u e) × Not (ValueFits u e))
+  pub side : Tells failedReport wrongSide (reportsTo step es e) ↔ (ByteInTime es u e × Not (SideDue u e))
+  pub early : Tells failedReport tooEarly (reportsTo step es e) ↔ (ByteInTime es u e × SideDue u e × TooEarly u e)
+  pub value : Tells failedReport misfit (reportsTo step es e) ↔ (ByteInTime es u e × SideDue u e × Not (TooEarly u e) × Not (ValueFits u e))
   -- "Success is report 3.": the last byte
-  pub connects : Says connectedReport (reportsTo step es e) ↔ (HeardIn es u e × AllRight u e × (endsHere u ≡ true))
+  pub connects : Says connectedReport (reportsTo step es e) ↔ (ByteInTime es u e × AllRight u e × (endsHere u ≡ true))
   -- any other byte that is right, and a tick in time, let it go on
-  pub goes : HeardIn es u e → AllRight u e → endsHere u ≡ false → Starting step (es ▷ e)
+  pub goes : ByteInTime es u e → AllRight u e → endsHere u ≡ false → Starting step (es ▷ e)
   pub waits : numberAfter (takenOf es) e ≡ taken → e .kind ≡ Tick → Not (WindowOver u e) → Starting step (es ▷ e)
