@@ -54,7 +54,7 @@ use Rattle.demands.proofs.Leaving.{wrong-low, mark-not-idle, mark-idle}
 
 -- ---- kinds apart
 -- A, W and D
-abbrev isCloser : Kind → Bool
+abbrev pub isCloser : Kind → Bool
 isCloser Address = true
 isCloser WakeUp = true
 isCloser Byte = false
@@ -62,12 +62,12 @@ isCloser Tick = false
 isCloser Drop = true
 isCloser Other = false
 
-no-closer : (e : Event) (k : Kind) → isCloser k ≡ false → e .kind ≡ k → Closer e → ⊥
+pub no-closer : (e : Event) (k : Kind) → isCloser k ≡ false → e .kind ≡ k → Closer e → ⊥
 no-closer e k x p (inl (inl q)) = false≢true (sym x ∙ (sym (ap isCloser p) ∙ ap isCloser q))
 no-closer e k x p (inl (inr q)) = false≢true (sym x ∙ (sym (ap isCloser p) ∙ ap isCloser q))
 no-closer e k x p (inr q) = false≢true (sym x ∙ (sym (ap isCloser p) ∙ ap isCloser q))
 
-no-byte : (e : Event) (k : Kind) → isByte k ≡ false → e .kind ≡ k → e .kind ≡ Byte → ⊥
+pub no-byte : (e : Event) (k : Kind) → isByte k ≡ false → e .kind ≡ k → e .kind ≡ Byte → ⊥
 unfolding isByte
 no-byte e k x p q = false≢true (sym x ∙ (sym (ap isByte p) ∙ ap isByte q))
 
@@ -76,10 +76,10 @@ no-wake-up e a w = let z : _≡_ {A = ℕ} 0 1 = cc in omega arith
 
 -- ---- how an event leaves a link in an initialization: it starts one, or it lets one go on
 module _ (l : Link) (e : Event) where
-  abbrev r : Run
+  abbrev pub r : Run
   r = leftBy l e
 
-  abbrev judges : Phase → ℕ
+  abbrev pub judges : Phase → ℕ
   judges p = judged (p .start) (e .side) (e .value) (sinceOrigin p (l .mark) (e .start))
 
   data Leads : Type 0 where
@@ -117,7 +117,7 @@ module _ (l : Link) (e : Event) where
   leads i = leads-by (e .kind) refl i
 
   -- then no report 4 has a cause
-  lets-none : In (r .phase) → (Closer e → ⊥) → (e .kind ≡ Byte → judges (r .phase) ≡ noReason) → (Over (l .phase) (l .mark) (e .start) → ⊥) → {k : ℕ}
+  pub lets-none : In (r .phase) → (Closer e → ⊥) → (e .kind ≡ Byte → judges (r .phase) ≡ noReason) → (Over (l .phase) (l .mark) (e .start) → ⊥) → {k : ℕ}
       → Fails (l .phase) (r .phase) (l .mark) e k → ⊥
   lets-none i c j n (runs-out o) = n o
   lets-none i c j n (closes s d) = c d
@@ -160,7 +160,7 @@ module _ (l : Link) (e : Event) where
   unfolding startByte
   start-fails p side v gap z = rw z refl
 
-  wrong-made : Long (l .phase) → e .kind ≡ Byte → In (r .phase) → eqb (judges (r .phase)) noReason ≡ false → Tells failedReport (judges (r .phase)) (handledTells l e)
+  pub wrong-made : Long (l .phase) → e .kind ≡ Byte → In (r .phase) → eqb (judges (r .phase)) noReason ≡ false → Tells failedReport (judges (r .phase)) (handledTells l e)
   wrong-made g k i z =
       by-acting l e g failedReport (judges (r .phase)) Byte k
       (byte-tells r e (l .mark) failedReport (judges (r .phase)) down refl
@@ -302,7 +302,7 @@ down-off : (st : State) → st ≡ Down → (isConnected st ≡ false) × (isSta
 unfolding isConnected isStarting
 down-off st q = (ap isConnected q, ap isStarting q)
 
-false-of : (b : Bool) → (b ≡ true → ⊥) → b ≡ false
+pub false-of : (b : Bool) → (b ≡ true → ⊥) → b ≡ false
 false-of true n = absurd (n refl)
 false-of false n = refl
 
@@ -320,7 +320,7 @@ module _ (es : Log) (e : Event) where
   abbrev l : Link
   l = after stepOf es .link
 
-  over-told : Tells failedReport windowOver (reportsTo stepOf es e) → Over (l .phase) (l .mark) (e .start)
+  pub over-told : Tells failedReport windowOver (reportsTo stepOf es e) → Over (l .phase) (l .mark) (e .start)
   over-told t = of-over _ _ _ e (of-fail _ _ _ e (tells-caused es e failedReport windowOver t .cause) refl) refl
 
   idle-told : Tells downReport idleOver (reportsTo stepOf es e) → Idled (l .phase) (gapOf (l .mark) (e .start))

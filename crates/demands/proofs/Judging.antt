@@ -24,14 +24,14 @@ use Rattle.demands.specs.Starts.{Window}
 use Rattle.demands.proofs.Running.{firstBy, fallBy, startOn, lastEnd, Starts, Hears, isLastOn, Runs, Done}
 
 -- ---- the tests, one by one
-judged-by : (a b c : Bool) → (if not a then wrongSide else if b then tooEarly else if c then noReason else misfit) ≡ noReason
+pub judged-by : (a b c : Bool) → (if not a then wrongSide else if b then tooEarly else if c then noReason else misfit) ≡ noReason
     → (a ≡ true) × (b ≡ false) × (c ≡ true)
 judged-by false b c q = absurd (omega arith)
 judged-by true true c q = absurd (omega arith)
 judged-by true false false q = absurd (omega arith)
 judged-by true false true q = (refl, refl, refl)
 
-side-is : (a b : Side) → sameSide a b ≡ true → a ≡ b
+pub side-is : (a b : Side) → sameSide a b ≡ true → a ≡ b
 unfolding sameSide isTester isUnit isNobody
 side-is Tester Tester h = refl
 side-is Tester Unit h = absurd (false≢true h)
@@ -43,7 +43,7 @@ side-is Nobody Tester h = absurd (false≢true h)
 side-is Nobody Unit h = absurd (false≢true h)
 side-is Nobody Nobody h = refl
 
-is-side : (a : Side) → sameSide a a ≡ true
+pub is-side : (a : Side) → sameSide a a ≡ true
 unfolding sameSide isTester isUnit isNobody
 is-side Tester = refl
 is-side Unit = refl

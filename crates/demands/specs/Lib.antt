@@ -9,3 +9,4 @@ pub mod Messages
 pub mod Accounts
 pub mod Endings
 pub mod Each
+pub mod Failing
