@@ -8,3 +8,4 @@ pub mod Sessions
 pub mod Messages
 pub mod Accounts
 pub mod Endings
+pub mod Frames
