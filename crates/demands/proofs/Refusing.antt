@@ -15,13 +15,15 @@ use Rattle.base.specs.Numbers.{taken, badKeys, badForm, badLength, noRoom, badC
 use Rattle.keys.specs.Keys.{goodPair, takesForm, lengthInFormat, extraLength, noAddresses, withAddresses, isExtended}
 use Rattle.keys.specs.declared.Form.{Form}
 use Rattle.keys.specs.declared.Form.the-variants.{Plain, Physical, Functional, Foreign}
-use Rattle.frame.specs.Layout.{formNumbered, isNowhere}
+use Rattle.frame.specs.Layout.{formNumbered, formatForm, addressCount, extraCount, headSize, total, checksumOf, isNowhere}
 use Rattle.frame.specs.Build.{placeFor, planned, sizeOf, buildNo, notBuilt, builtOf, bufferAfter, Builds}
+use Rattle.frame.specs.Read.{formatByte, placeRead, lengthRead, lengthOf, notLaid, laidOf, notRead, judged, readOf}
 use Rattle.frame.specs.declared.Plan.{Plan}
 use Rattle.frame.specs.declared.Built.{Built}
+use Rattle.frame.specs.declared.Reading.{Reading}
 use Rattle.frame.proofs.Sizes.{frame-length}
 use Rattle.demands.specs.Refusals.{Not}
-use Rattle.demands.specs.Frames.{BadKeys, BadForm, GoesInFormat, TakesExtra, BadLength, NoRoom, BuildNumbered}
+use Rattle.demands.specs.Frames.{BadKeys, BadForm, GoesInFormat, TakesExtra, BadLength, NoRoom, BuildNumbered, lowSix, addressesIn, extraByte, BadMode, NotPlaced, HeaderSays, BadSlice, BadSum, ReadNumbered}
 use Rattle.demands.proofs.Numbering.{Decides}
 
 -- ---- tests that hold exactly when conditions do
@@ -226,3 +228,210 @@ unfolding builtOf bufferAfter
 build-as-before p bytes out r after b h =
     let q = ne-eqb (buildNo p (length bytes) (length out)) 0 (λ e. h (sym (answered-no p bytes out r after b) ∙ e)) in
     (b .memory ∙ rw q, ap (λ (k : Built). k .len) (b .answer) ∙ rw q)
+
+-- ---- reading
+-- its tests as four, one behind the other
+last-no : (b c : Bool) (r : Reading) → r .no ≡ taken
+    → (if not b then notRead badLength else if not c then notRead badChecksum else r) .no ≡ (if not b then badLength else if not c then badChecksum else taken)
+last-no false c r e = refl
+last-no true false r e = refl
+last-no true true r e = e
+
+last-zeros : (b c : Bool) (r : Reading) → r .no ≡ taken → Not ((if not b then notRead badLength else if not c then notRead badChecksum else r) .no ≡ taken)
+    → (if not b then notRead badLength else if not c then notRead badChecksum else r)
+    ≡ notRead ((if not b then notRead badLength else if not c then notRead badChecksum else r) .no)
+last-zeros false c r e h = refl
+last-zeros true false r e h = refl
+last-zeros true true r e h = absurd (h e)
+
+abbrev readBy : List ℕ → Bool → Bool → Bool → Bool → Bool → Form → ℕ → ℕ → Reading
+readBy s good empty takes nowhere none form start len =
+    if not good then notRead badKeys else
+    judged s
+    (if empty then notLaid badLength else
+    if not takes then notLaid badForm else
+    if nowhere then notLaid badLength else
+    if none then notLaid badLength else
+    record { no = taken; form = form; start = start; len = len })
+
+no-by : (s : List ℕ) (g z t w n : Bool) (form : Form) (start len : ℕ)
+    → readBy s g z t w n form start len .no
+    ≡ (if not g then badKeys else
+    if not z && not t then badForm else
+    if z || (w || (n || not (eqb (length s) (start + len + 1)))) then badLength else
+    if not (eqb (checksumOf (take (start + len) s)) (getD s (start + len) 0)) then badChecksum else taken)
+unfolding judged
+no-by s false z t w n form start len = refl
+no-by s true true t w n form start len = refl
+no-by s true false false w n form start len = refl
+no-by s true false true true n form start len = refl
+no-by s true false true false true form start len = refl
+no-by s true false true false false form start len =
+    last-no (eqb (length s) (start + len + 1)) (eqb (checksumOf (take (start + len) s)) (getD s (start + len) 0)) _ refl
+
+zeros-by : (s : List ℕ) (g z t w n : Bool) (form : Form) (start len : ℕ) → Not (readBy s g z t w n form start len .no ≡ taken)
+    → readBy s g z t w n form start len ≡ notRead (readBy s g z t w n form start len .no)
+unfolding judged
+zeros-by s false z t w n form start len h = refl
+zeros-by s true true t w n form start len h = refl
+zeros-by s true false false w n form start len h = refl
+zeros-by s true false true true n form start len h = refl
+zeros-by s true false true false true form start len h = refl
+zeros-by s true false true false false form start len h =
+    last-zeros (eqb (length s) (start + len + 1)) (eqb (checksumOf (take (start + len) s)) (getD s (start + len) 0)) _ refl h
+
+-- 6, by the mode
+mode-by : (kb1 m : ℕ) (a b c : Bool) → eqb m 0 ≡ a → eqb m 1 ≡ b → eqb m 2 ≡ c
+    → Decides (not (takesForm kb1 (if a then Plain else if b then Foreign else if c then Physical else Functional)))
+    ((m ≡ 1) ⊎ ((m ≡ 0) × (noAddresses kb1 ≡ false)) ⊎ ((2 ≤ m) × (withAddresses kb1 ≡ false)) ⊎ ((3 ≤ m) × (isExtended kb1 ≡ true)))
+unfolding takesForm
+mode-by kb1 m true b c ea eb ec =
+    let e = eqb-true m 0 ea in
+    same (not (noAddresses kb1)) (decides-false (noAddresses kb1))
+    (λ h. inr (inl (e, h)), ⊎-elim (λ h. absurd (omega arith)) (⊎-elim (λ h. h .1) (⊎-elim (λ h. absurd (omega (arith, h .0))) (λ h. absurd (omega (arith, h .0))))))
+mode-by kb1 m false true c ea eb ec = (λ _. inl (eqb-true m 1 eb), λ _. refl)
+mode-by kb1 m false false true ea eb ec =
+    let e = eqb-true m 2 ec in
+    same (not (withAddresses kb1)) (decides-false (withAddresses kb1))
+    (λ h. inr (inr (inl (omega arith, h))), ⊎-elim (λ h. absurd (omega arith)) (⊎-elim (λ h. absurd (omega (arith, h .0))) (⊎-elim (λ h. h .1) (λ h. absurd (omega (arith, h .0))))))
+mode-by kb1 m false false false ea eb ec =
+    let n0 = eqb-false m 0 ea in
+    let n1 = eqb-false m 1 eb in
+    let n2 = eqb-false m 2 ec in
+    functional (withAddresses kb1) (isExtended kb1) (omega arith)
+  where
+    functional : (w x : Bool) → 3 ≤ m
+        → Decides (not (w && not x)) ((m ≡ 1) ⊎ ((m ≡ 0) × (noAddresses kb1 ≡ false)) ⊎ ((2 ≤ m) × (w ≡ false)) ⊎ ((3 ≤ m) × (x ≡ true)))
+    functional false x e = (λ _. inr (inr (inl (omega arith, refl))), λ _. refl)
+    functional true true e = (λ _. inr (inr (inr (e, refl))), λ _. refl)
+    functional true false e = (
+      λ t. absurd (false≢true t),
+      ⊎-elim (λ h. absurd (omega arith)) (⊎-elim (λ h. absurd (omega (arith, h .0))) (⊎-elim (λ h. absurd (true≢false (h .1))) (λ h. absurd (false≢true (h .1))))),
+    )
+
+decides-some : (n : ℕ) → Decides (not (eqb n 0)) (1 ≤ n)
+decides-some n = same (not (eqb n 0)) (opposite (eqb n 0) (decides-eq n 0)) (λ h. omega arith, λ h e. omega arith)
+
+decides-mode : (kb1 : ℕ) (s : List ℕ) → Decides (not (eqb (length s) 0) && not (takesForm kb1 (formatForm (formatByte s)))) (BadMode kb1 s)
+unfolding formatForm
+decides-mode kb1 s =
+    let m = formatByte s / 64 in
+    both (not (eqb (length s) 0)) (not (takesForm kb1 (formatForm (formatByte s)))) (decides-some (length s))
+    (mode-by kb1 m (eqb m 0) (eqb m 1) (eqb m 2) refl refl refl)
+
+-- 7: the place of the length, whatever stands for the three
+place-by : {A : Type 0} (nowhere : A → Bool) (format extra other : A) → nowhere format ≡ false → nowhere extra ≡ false → nowhere other ≡ true
+    → (m : ℕ) (z x g : Bool) → eqb m 0 ≡ z
+    → Decides (nowhere (if z then (if x then extra else other) else (if g then format else other))) ((Not (m ≡ 0) × (g ≡ false)) ⊎ ((m ≡ 0) × (x ≡ false)))
+place-by nowhere format extra other ef ee eo m true true g ez =
+    (λ t. absurd (false≢true (sym ee ∙ t)), ⊎-elim (λ h. absurd (h .0 (eqb-true m 0 ez))) (λ h. absurd (true≢false (h .1))))
+place-by nowhere format extra other ef ee eo m true false g ez = (λ _. inr (eqb-true m 0 ez, refl), λ _. eo)
+place-by nowhere format extra other ef ee eo m false x true ez =
+    (λ t. absurd (false≢true (sym ef ∙ t)), ⊎-elim (λ h. absurd (true≢false (h .1))) (λ h. absurd (eqb-false m 0 ez (h .0))))
+place-by nowhere format extra other ef ee eo m false x false ez = (λ _. inl (eqb-false m 0 ez, refl), λ _. eo)
+
+decides-place : (kb1 : ℕ) (s : List ℕ) → Decides (isNowhere (placeRead kb1 (formatByte s))) (NotPlaced kb1 s)
+unfolding placeRead isNowhere
+decides-place kb1 s =
+    place-by isNowhere _ _ _ refl refl refl (lowSix s) (eqb (lowSix s) 0) (extraLength kb1) (lengthInFormat kb1) refl
+
+-- a place that is announced takes one byte or none
+count-by : {A : Type 0} (nowhere : A → Bool) (count : A → ℕ) (format extra other : A) → nowhere other ≡ true → count format ≡ 0 → count extra ≡ 1
+    → (z x g : Bool) → nowhere (if z then (if x then extra else other) else (if g then format else other)) ≡ false
+    → count (if z then (if x then extra else other) else (if g then format else other)) ≡ (if z then 1 else 0)
+count-by nowhere count format extra other eo cf ce true true g h = ce
+count-by nowhere count format extra other eo cf ce true false g h = absurd (true≢false (sym eo ∙ h))
+count-by nowhere count format extra other eo cf ce false x true h = cf
+count-by nowhere count format extra other eo cf ce false x false h = absurd (true≢false (sym eo ∙ h))
+
+count-read : (kb1 f : ℕ) → isNowhere (placeRead kb1 f) ≡ false → extraCount (placeRead kb1 f) ≡ (if eqb (f % 64) 0 then 1 else 0)
+unfolding placeRead isNowhere extraCount
+count-read kb1 f h = count-by isNowhere extraCount _ _ _ refl refl refl (eqb (f % 64) 0) (extraLength kb1) (lengthInFormat kb1) h
+
+-- the length, and how many bytes there are with it
+none-by : (m b : ℕ) (z : Bool) → eqb m 0 ≡ z → Decides (eqb (if z then b else m) 0) ((m ≡ 0) × (b ≡ 0))
+none-by m b true ez = same (eqb b 0) (decides-eq b 0) (λ e. (eqb-true m 0 ez, e), λ h. h .1)
+none-by m b false ez = same (eqb m 0) (decides-eq m 0) (λ e. absurd (eqb-false m 0 ez e), λ h. h .0)
+
+decides-none : (s : List ℕ) → Decides (eqb (lengthOf s) 0) ((lowSix s ≡ 0) × (extraByte s ≡ 0))
+unfolding lengthRead
+decides-none s = none-by (lowSix s) (extraByte s) (eqb (lowSix s) 0) refl
+
+size-by : (n a m b k : ℕ) (z : Bool) → eqb m 0 ≡ z → k ≡ (if z then 1 else 0)
+    → Decides (eqb n (1 + a + k + (if z then b else m) + 1)) ((Not (m ≡ 0) × (n ≡ 1 + a + m + 1)) ⊎ ((m ≡ 0) × (n ≡ 1 + a + 1 + b + 1)))
+size-by n a m b k true ez ek =
+    same (eqb n (1 + a + k + b + 1)) (decides-eq n (1 + a + k + b + 1))
+    (λ e. inr (eqb-true m 0 ez, omega arith), ⊎-elim (λ h. absurd (h .0 (eqb-true m 0 ez))) (λ h. omega (arith, h .1)))
+size-by n a m b k false ez ek =
+    same (eqb n (1 + a + k + m + 1)) (decides-eq n (1 + a + k + m + 1))
+    (λ e. inl (eqb-false m 0 ez, omega arith), ⊎-elim (λ h. omega (arith, h .1)) (λ h. absurd (eqb-false m 0 ez (h .0))))
+
+abbrev startOf : ℕ → List ℕ → ℕ
+startOf kb1 s = headSize (formatForm (formatByte s)) (placeRead kb1 (formatByte s))
+
+decides-size : (kb1 : ℕ) (s : List ℕ) → isNowhere (placeRead kb1 (formatByte s)) ≡ false
+    → Decides (eqb (length s) (startOf kb1 s + lengthOf s + 1)) (HeaderSays s (length s))
+unfolding lengthRead headSize
+decides-size kb1 s h =
+    size-by (length s) (addressesIn s) (lowSix s) (extraByte s) (extraCount (placeRead kb1 (formatByte s))) (eqb (lowSix s) 0) refl (count-read kb1 (formatByte s) h)
+
+abbrev sliceTest : ℕ → List ℕ → Bool
+sliceTest kb1 s =
+    eqb (length s) 0
+    || (isNowhere (placeRead kb1 (formatByte s)) || (eqb (lengthOf s) 0 || not (eqb (length s) (startOf kb1 s + lengthOf s + 1))))
+
+decides-slice : (kb1 : ℕ) (s : List ℕ) → Decides (sliceTest kb1 s) (BadSlice kb1 s)
+decides-slice kb1 s =
+    either (eqb (length s) 0) _ (decides-eq (length s) 0)
+    (λ _. either (isNowhere (placeRead kb1 (formatByte s))) _ (decides-place kb1 s)
+    (λ h. either (eqb (lengthOf s) 0) _ (decides-none s)
+    (λ _. opposite (eqb (length s) (startOf kb1 s + lengthOf s + 1)) (decides-size kb1 s h))))
+
+-- 9, of a slice that has its size
+sized : (a b c d : Bool) → (a || (b || (c || not d))) ≡ false → d ≡ true
+sized false false false d e = not-false d e
+sized false false true d e = absurd (true≢false e)
+sized false true c d e = absurd (true≢false e)
+sized true b c d e = absurd (true≢false e)
+
+sum-by : (s : List ℕ) (k j : ℕ) → k ≡ j → Decides (not (eqb (checksumOf (take k s)) (getD s k 0))) (Not (getD s j 0 ≡ total (take j s) % 256))
+unfolding checksumOf
+sum-by s k j e =
+    rw e
+    (opposite (eqb (total (take j s) % 256) (getD s j 0))
+    (same (eqb (total (take j s) % 256) (getD s j 0)) (decides-eq (total (take j s) % 256) (getD s j 0)) (λ q. sym q, λ q. sym q)))
+
+decides-sum : (kb1 : ℕ) (s : List ℕ) → sliceTest kb1 s ≡ false
+    → Decides (not (eqb (checksumOf (take (startOf kb1 s + lengthOf s) s)) (getD s (startOf kb1 s + lengthOf s) 0))) (BadSum s)
+decides-sum kb1 s h =
+    let n = startOf kb1 s + lengthOf s in
+    let e : length s ≡ n + 1 = eqb-true (length s) (n + 1) (sized (eqb (length s) 0) (isNowhere (placeRead kb1 (formatByte s))) (eqb (lengthOf s) 0) (eqb (length s) (n + 1)) h) in
+    sum-by s n (length s - 1) (omega arith)
+
+-- THE NUMBER OF READING, for all key bytes and slices: 5, 6, 7 or 9 exactly when its condition holds and that of no smaller number does, and 0 exactly
+-- when none of the four holds. There is no other number.
+pub read-numbered : (kb1 kb2 : ℕ) (s : List ℕ) → ReadNumbered kb1 kb2 s (readOf kb1 kb2 s .no)
+unfolding readOf laidOf
+read-numbered kb1 kb2 s =
+    let f = formatByte s in
+    let n = startOf kb1 s + lengthOf s in
+    let c =
+    chosen 9 (omega arith) (not (goodPair kb1 kb2)) (not (eqb (length s) 0) && not (takesForm kb1 (formatForm f))) (sliceTest kb1 s)
+    (not (eqb (checksumOf (take n s)) (getD s n 0))) (decides-false (goodPair kb1 kb2)) (decides-mode kb1 s) (decides-slice kb1 s) (decides-sum kb1 s) in
+    subst (ReadNumbered kb1 kb2 s)
+    (sym (no-by s (goodPair kb1 kb2) (eqb (length s) 0) (takesForm kb1 (formatForm f)) (isNowhere (placeRead kb1 f)) (eqb (lengthOf s) 0) (formatForm f) (startOf kb1 s) (lengthOf s)))
+    (record {
+      five = c .five;
+      six = c .six;
+      seven = c .seven;
+      nine = c .later;
+      read = c .none;
+      no-other = c .no-other;
+    })
+
+-- BESIDE A REFUSAL OF READING every other number is 0.
+pub read-zeros : (kb1 kb2 : ℕ) (s : List ℕ) → Not (readOf kb1 kb2 s .no ≡ 0) → readOf kb1 kb2 s ≡ notRead (readOf kb1 kb2 s .no)
+unfolding readOf laidOf
+read-zeros kb1 kb2 s h =
+    let f = formatByte s in
+    zeros-by s (goodPair kb1 kb2) (eqb (length s) 0) (takesForm kb1 (formatForm f)) (isNowhere (placeRead kb1 f)) (eqb (lengthOf s) 0) (formatForm f) (startOf kb1 s) (lengthOf s) h
