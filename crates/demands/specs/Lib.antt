@@ -10,3 +10,4 @@ pub mod Accounts
 pub mod Endings
 pub mod Each
 pub mod Failing
+pub mod Frames
