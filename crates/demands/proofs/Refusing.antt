@@ -11,11 +11,22 @@ use borrow.Author.Tests.{ltb-true, lt-ltb, leb-true, le-leb, eqb-true, eq-eqb, e
 use lib.Dec.{eqb, leb, ltb}
 use lib.ListN.{length, getD, take}
 use Rattle.base.specs.Choice.{if_then_else_}
-use Rattle.base.specs.Numbers.{taken, badKeys, badForm, badLength, noRoom, badChecksum}
+use Rattle.base.specs.Numbers.{taken, badKeys, badForm, badLength, badChecksum}
+use Rattle.base.proofs.Tests.{and-split}
+use Rattle.units.specs.Units.{isEarlier}
+use Rattle.units.specs.declared.Micros.{Micros}
 use Rattle.keys.specs.Keys.{goodPair, takesForm, lengthInFormat, extraLength, noAddresses, withAddresses, isExtended}
 use Rattle.keys.specs.declared.Form.{Form}
 use Rattle.keys.specs.declared.Form.the-variants.{Plain, Physical, Functional, Foreign}
-use Rattle.frame.specs.Layout.{formNumbered, formatForm, addressCount, extraCount, headSize, total, checksumOf, isNowhere}
+use Rattle.timing.specs.Timing.{isUnlimited, isBelow, p4max, isAllowed, minOf, p2Half, p2MaxOf, windowsBy, notDecoded, decodedOf}
+use Rattle.timing.specs.Timing.{codesBy, sameWindows, notEncoded, encodedOf}
+use Rattle.timing.specs.declared.Limit.{Limit}
+use Rattle.timing.specs.declared.Windows.{Windows}
+use Rattle.timing.specs.declared.Codes.{Codes}
+use Rattle.timing.specs.declared.Decoded.{Decoded}
+use Rattle.timing.specs.declared.Encoded.{Encoded}
+use Rattle.timing.proofs.RoundTrip.{HasCodes, encoded-test, codes-exactly, no-codes}
+use Rattle.frame.specs.Layout.{formNumbered, formatForm, extraCount, headSize, total, checksumOf, isNowhere}
 use Rattle.frame.specs.Build.{placeFor, planned, sizeOf, buildNo, notBuilt, builtOf, bufferAfter, Builds}
 use Rattle.frame.specs.Read.{formatByte, placeRead, lengthRead, lengthOf, notLaid, laidOf, notRead, judged, readOf}
 use Rattle.frame.specs.declared.Plan.{Plan}
@@ -23,7 +34,8 @@ use Rattle.frame.specs.declared.Built.{Built}
 use Rattle.frame.specs.declared.Reading.{Reading}
 use Rattle.frame.proofs.Sizes.{frame-length}
 use Rattle.demands.specs.Refusals.{Not}
-use Rattle.demands.specs.Frames.{BadKeys, BadForm, GoesInFormat, TakesExtra, BadLength, NoRoom, BuildNumbered, lowSix, addressesIn, extraByte, BadMode, NotPlaced, HeaderSays, BadSlice, BadSum, ReadNumbered}
+use Rattle.demands.specs.Frames.{BadForm, GoesInFormat, TakesExtra, BadLength, BuildNumbered, Below, Allowed}
+use Rattle.demands.specs.Frames.{lowSix, addressesIn, extraByte, BadMode, NotPlaced, HeaderSays, BadSlice, BadSum, ReadNumbered}
 use Rattle.demands.proofs.Numbering.{Decides}
 
 -- ---- tests that hold exactly when conditions do
@@ -140,23 +152,31 @@ form-by : (kb1 n : ℕ) (a b c : Bool) → eqb n 0 ≡ a → eqb n 1 ≡ b → e
 unfolding takesForm
 form-by kb1 n true b c ea eb ec =
     let e = eqb-true n 0 ea in
-    same (not (noAddresses kb1)) (decides-false (noAddresses kb1))
-    (λ h. inr (inl (e, h)), ⊎-elim (λ h. absurd (omega arith)) (⊎-elim (λ h. h .1) (⊎-elim (λ h. absurd (omega (arith, h .0))) (⊎-elim (λ h. absurd (omega (arith, h .0))) (λ h. absurd (omega (arith, h .0)))))))
+    same (not (noAddresses kb1)) (decides-false (noAddresses kb1)) (
+      λ h. inr (inl (e, h)),
+      ⊎-elim (λ h. absurd (omega arith)) (⊎-elim (λ h. h .1) (⊎-elim (λ h. absurd (omega (arith, h .0)))
+          (⊎-elim (λ h. absurd (omega (arith, h .0))) (λ h. absurd (omega (arith, h .0)))))),
+    )
 form-by kb1 n false true c ea eb ec =
     let e = eqb-true n 1 eb in
-    same (not (withAddresses kb1)) (decides-false (withAddresses kb1))
-    (λ h. inr (inr (inl (e, h))), ⊎-elim (λ h. absurd (omega arith)) (⊎-elim (λ h. absurd (omega (arith, h .0))) (⊎-elim (λ h. h .1) (⊎-elim (λ h. absurd (omega (arith, h .0))) (λ h. absurd (omega (arith, h .0)))))))
+    same (not (withAddresses kb1)) (decides-false (withAddresses kb1)) (
+      λ h. inr (inr (inl (e, h))),
+      ⊎-elim (λ h. absurd (omega arith)) (⊎-elim (λ h. absurd (omega (arith, h .0))) (⊎-elim (λ h. h .1)
+          (⊎-elim (λ h. absurd (omega (arith, h .0))) (λ h. absurd (omega (arith, h .0)))))),
+    )
 form-by kb1 n false false true ea eb ec =
     let e = eqb-true n 2 ec in
     functional (withAddresses kb1) (isExtended kb1) e
   where
     functional : (w x : Bool) → n ≡ 2
-        → Decides (not (w && not x)) ((2 < n) ⊎ ((n ≡ 0) × (noAddresses kb1 ≡ false)) ⊎ ((n ≡ 1) × (w ≡ false)) ⊎ ((n ≡ 2) × (w ≡ false)) ⊎ ((n ≡ 2) × (x ≡ true)))
+        → Decides (not (w && not x))
+        ((2 < n) ⊎ ((n ≡ 0) × (noAddresses kb1 ≡ false)) ⊎ ((n ≡ 1) × (w ≡ false)) ⊎ ((n ≡ 2) × (w ≡ false)) ⊎ ((n ≡ 2) × (x ≡ true)))
     functional false x e = (λ _. inr (inr (inr (inl (e, refl)))), λ _. refl)
     functional true true e = (λ _. inr (inr (inr (inr (e, refl)))), λ _. refl)
     functional true false e = (
       λ t. absurd (false≢true t),
-      ⊎-elim (λ h. absurd (omega arith)) (⊎-elim (λ h. absurd (omega (arith, h .0))) (⊎-elim (λ h. absurd (omega (arith, h .0))) (⊎-elim (λ h. absurd (true≢false (h .1))) (λ h. absurd (false≢true (h .1)))))),
+      ⊎-elim (λ h. absurd (omega arith)) (⊎-elim (λ h. absurd (omega (arith, h .0))) (⊎-elim (λ h. absurd (omega (arith, h .0)))
+          (⊎-elim (λ h. absurd (true≢false (h .1))) (λ h. absurd (false≢true (h .1)))))),
     )
 form-by kb1 n false false false ea eb ec =
     let n0 = eqb-false n 0 ea in
@@ -187,8 +207,9 @@ build-no-numbered : (p : Plan) (n room : ℕ) → BuildNumbered p n room (buildN
 unfolding buildNo
 build-no-numbered p n room =
     let c =
-    chosen 8 (omega arith) (not (goodPair (p .kb1) (p .kb2))) (not (takesForm (p .kb1) (formNumbered (p .form)))) (isNowhere (placeFor (p .kb1) n)) (ltb room (sizeOf p n))
-    (decides-false (goodPair (p .kb1) (p .kb2))) (decides-form (p .kb1) (p .form)) (decides-length (p .kb1) n) (λ _. decides-lt room (sizeOf p n)) in
+    chosen 8 (omega arith) (not (goodPair (p .kb1) (p .kb2))) (not (takesForm (p .kb1) (formNumbered (p .form)))) (isNowhere (placeFor (p .kb1) n))
+    (ltb room (sizeOf p n)) (decides-false (goodPair (p .kb1) (p .kb2))) (decides-form (p .kb1) (p .form)) (decides-length (p .kb1) n)
+    (λ _. decides-lt room (sizeOf p n)) in
     record {
       five = c .five;
       six = c .six;
@@ -202,11 +223,13 @@ built-no : (p : Plan) (n room : ℕ) → builtOf p n room .no ≡ buildNo p n ro
 unfolding builtOf
 built-no p n room = by-no (eqb (buildNo p n room) taken) refl
   where
-    by-no : (b : Bool) → eqb (buildNo p n room) taken ≡ b → (if b then record { no = taken; len = sizeOf p n } else notBuilt (buildNo p n room)) .no ≡ buildNo p n room
+    by-no : (b : Bool) → eqb (buildNo p n room) taken ≡ b
+        → (if b then record { no = taken; len = sizeOf p n } else notBuilt (buildNo p n room)) .no ≡ buildNo p n room
     by-no true e = sym (eqb-true (buildNo p n room) taken e)
     by-no false e = refl
 
-answered-no : (p : Plan) (bytes out : List ℕ) (r : Built) (after : List ℕ) → Builds p bytes out r after → buildNo p (length bytes) (length out) ≡ r .no
+answered-no : (p : Plan) (bytes out : List ℕ) (r : Built) (after : List ℕ) → Builds p bytes out r after
+    → buildNo p (length bytes) (length out) ≡ r .no
 answered-no p bytes out r after b = sym (ap (λ (k : Built). k .no) (b .answer) ∙ built-no p (length bytes) (length out))
 
 -- THE NUMBER OF BUILDING, for every plan, all data and any lent buffer: 5, 6, 7 or 8 exactly when its condition holds and that of no smaller number
@@ -232,12 +255,14 @@ build-as-before p bytes out r after b h =
 -- ---- reading
 -- its tests as four, one behind the other
 last-no : (b c : Bool) (r : Reading) → r .no ≡ taken
-    → (if not b then notRead badLength else if not c then notRead badChecksum else r) .no ≡ (if not b then badLength else if not c then badChecksum else taken)
+    → (if not b then notRead badLength else if not c then notRead badChecksum else r) .no
+    ≡ (if not b then badLength else if not c then badChecksum else taken)
 last-no false c r e = refl
 last-no true false r e = refl
 last-no true true r e = e
 
-last-zeros : (b c : Bool) (r : Reading) → r .no ≡ taken → Not ((if not b then notRead badLength else if not c then notRead badChecksum else r) .no ≡ taken)
+last-zeros : (b c : Bool) (r : Reading) → r .no ≡ taken
+    → Not ((if not b then notRead badLength else if not c then notRead badChecksum else r) .no ≡ taken)
     → (if not b then notRead badLength else if not c then notRead badChecksum else r)
     ≡ notRead ((if not b then notRead badLength else if not c then notRead badChecksum else r) .no)
 last-zeros false c r e h = refl
@@ -287,13 +312,17 @@ mode-by : (kb1 m : ℕ) (a b c : Bool) → eqb m 0 ≡ a → eqb m 1 ≡ b → e
 unfolding takesForm
 mode-by kb1 m true b c ea eb ec =
     let e = eqb-true m 0 ea in
-    same (not (noAddresses kb1)) (decides-false (noAddresses kb1))
-    (λ h. inr (inl (e, h)), ⊎-elim (λ h. absurd (omega arith)) (⊎-elim (λ h. h .1) (⊎-elim (λ h. absurd (omega (arith, h .0))) (λ h. absurd (omega (arith, h .0))))))
+    same (not (noAddresses kb1)) (decides-false (noAddresses kb1)) (
+      λ h. inr (inl (e, h)),
+      ⊎-elim (λ h. absurd (omega arith)) (⊎-elim (λ h. h .1) (⊎-elim (λ h. absurd (omega (arith, h .0))) (λ h. absurd (omega (arith, h .0))))),
+    )
 mode-by kb1 m false true c ea eb ec = (λ _. inl (eqb-true m 1 eb), λ _. refl)
 mode-by kb1 m false false true ea eb ec =
     let e = eqb-true m 2 ec in
-    same (not (withAddresses kb1)) (decides-false (withAddresses kb1))
-    (λ h. inr (inr (inl (omega arith, h))), ⊎-elim (λ h. absurd (omega arith)) (⊎-elim (λ h. absurd (omega (arith, h .0))) (⊎-elim (λ h. h .1) (λ h. absurd (omega (arith, h .0))))))
+    same (not (withAddresses kb1)) (decides-false (withAddresses kb1)) (
+      λ h. inr (inr (inl (omega arith, h))),
+      ⊎-elim (λ h. absurd (omega arith)) (⊎-elim (λ h. absurd (omega (arith, h .0))) (⊎-elim (λ h. h .1) (λ h. absurd (omega (arith, h .0))))),
+    )
 mode-by kb1 m false false false ea eb ec =
     let n0 = eqb-false m 0 ea in
     let n1 = eqb-false m 1 eb in
@@ -306,7 +335,8 @@ mode-by kb1 m false false false ea eb ec =
     functional true true e = (λ _. inr (inr (inr (e, refl))), λ _. refl)
     functional true false e = (
       λ t. absurd (false≢true t),
-      ⊎-elim (λ h. absurd (omega arith)) (⊎-elim (λ h. absurd (omega (arith, h .0))) (⊎-elim (λ h. absurd (true≢false (h .1))) (λ h. absurd (false≢true (h .1))))),
+      ⊎-elim (λ h. absurd (omega arith)) (⊎-elim (λ h. absurd (omega (arith, h .0)))
+          (⊎-elim (λ h. absurd (true≢false (h .1))) (λ h. absurd (false≢true (h .1))))),
     )
 
 decides-some : (n : ℕ) → Decides (not (eqb n 0)) (1 ≤ n)
@@ -322,7 +352,8 @@ decides-mode kb1 s =
 -- 7: the place of the length, whatever stands for the three
 place-by : {A : Type 0} (nowhere : A → Bool) (format extra other : A) → nowhere format ≡ false → nowhere extra ≡ false → nowhere other ≡ true
     → (m : ℕ) (z x g : Bool) → eqb m 0 ≡ z
-    → Decides (nowhere (if z then (if x then extra else other) else (if g then format else other))) ((Not (m ≡ 0) × (g ≡ false)) ⊎ ((m ≡ 0) × (x ≡ false)))
+    → Decides (nowhere (if z then (if x then extra else other) else (if g then format else other)))
+    ((Not (m ≡ 0) × (g ≡ false)) ⊎ ((m ≡ 0) × (x ≡ false)))
 place-by nowhere format extra other ef ee eo m true true g ez =
     (λ t. absurd (false≢true (sym ee ∙ t)), ⊎-elim (λ h. absurd (h .0 (eqb-true m 0 ez))) (λ h. absurd (true≢false (h .1))))
 place-by nowhere format extra other ef ee eo m true false g ez = (λ _. inr (eqb-true m 0 ez, refl), λ _. eo)
@@ -336,8 +367,8 @@ decides-place kb1 s =
     place-by isNowhere _ _ _ refl refl refl (lowSix s) (eqb (lowSix s) 0) (extraLength kb1) (lengthInFormat kb1) refl
 
 -- a place that is announced takes one byte or none
-count-by : {A : Type 0} (nowhere : A → Bool) (count : A → ℕ) (format extra other : A) → nowhere other ≡ true → count format ≡ 0 → count extra ≡ 1
-    → (z x g : Bool) → nowhere (if z then (if x then extra else other) else (if g then format else other)) ≡ false
+count-by : {A : Type 0} (nowhere : A → Bool) (count : A → ℕ) (format extra other : A) → nowhere other ≡ true
+    → count format ≡ 0 → count extra ≡ 1 → (z x g : Bool) → nowhere (if z then (if x then extra else other) else (if g then format else other)) ≡ false
     → count (if z then (if x then extra else other) else (if g then format else other)) ≡ (if z then 1 else 0)
 count-by nowhere count format extra other eo cf ce true true g h = ce
 count-by nowhere count format extra other eo cf ce true false g h = absurd (true≢false (sym eo ∙ h))
@@ -373,7 +404,8 @@ decides-size : (kb1 : ℕ) (s : List ℕ) → isNowhere (placeRead kb1 (formatBy
     → Decides (eqb (length s) (startOf kb1 s + lengthOf s + 1)) (HeaderSays s (length s))
 unfolding lengthRead headSize
 decides-size kb1 s h =
-    size-by (length s) (addressesIn s) (lowSix s) (extraByte s) (extraCount (placeRead kb1 (formatByte s))) (eqb (lowSix s) 0) refl (count-read kb1 (formatByte s) h)
+    size-by (length s) (addressesIn s) (lowSix s) (extraByte s) (extraCount (placeRead kb1 (formatByte s)))
+    (eqb (lowSix s) 0) refl (count-read kb1 (formatByte s) h)
 
 abbrev sliceTest : ℕ → List ℕ → Bool
 sliceTest kb1 s =
@@ -405,7 +437,9 @@ decides-sum : (kb1 : ℕ) (s : List ℕ) → sliceTest kb1 s ≡ false
     → Decides (not (eqb (checksumOf (take (startOf kb1 s + lengthOf s) s)) (getD s (startOf kb1 s + lengthOf s) 0))) (BadSum s)
 decides-sum kb1 s h =
     let n = startOf kb1 s + lengthOf s in
-    let e : length s ≡ n + 1 = eqb-true (length s) (n + 1) (sized (eqb (length s) 0) (isNowhere (placeRead kb1 (formatByte s))) (eqb (lengthOf s) 0) (eqb (length s) (n + 1)) h) in
+    let e : length s ≡ n + 1 =
+    eqb-true (length s) (n + 1)
+    (sized (eqb (length s) 0) (isNowhere (placeRead kb1 (formatByte s))) (eqb (lengthOf s) 0) (eqb (length s) (n + 1)) h) in
     sum-by s n (length s - 1) (omega arith)
 
 -- THE NUMBER OF READING, for all key bytes and slices: 5, 6, 7 or 9 exactly when its condition holds and that of no smaller number does, and 0 exactly
@@ -419,7 +453,8 @@ read-numbered kb1 kb2 s =
     chosen 9 (omega arith) (not (goodPair kb1 kb2)) (not (eqb (length s) 0) && not (takesForm kb1 (formatForm f))) (sliceTest kb1 s)
     (not (eqb (checksumOf (take n s)) (getD s n 0))) (decides-false (goodPair kb1 kb2)) (decides-mode kb1 s) (decides-slice kb1 s) (decides-sum kb1 s) in
     subst (ReadNumbered kb1 kb2 s)
-    (sym (no-by s (goodPair kb1 kb2) (eqb (length s) 0) (takesForm kb1 (formatForm f)) (isNowhere (placeRead kb1 f)) (eqb (lengthOf s) 0) (formatForm f) (startOf kb1 s) (lengthOf s)))
+    (sym (no-by s (goodPair kb1 kb2) (eqb (length s) 0) (takesForm kb1 (formatForm f)) (isNowhere (placeRead kb1 f))
+    (eqb (lengthOf s) 0) (formatForm f) (startOf kb1 s) (lengthOf s)))
     (record {
       five = c .five;
       six = c .six;
@@ -434,4 +469,85 @@ pub read-zeros : (kb1 kb2 : ℕ) (s : List ℕ) → Not (readOf kb1 kb2 s .no �
 unfolding readOf laidOf
 read-zeros kb1 kb2 s h =
     let f = formatByte s in
-    zeros-by s (goodPair kb1 kb2) (eqb (length s) 0) (takesForm kb1 (formatForm f)) (isNowhere (placeRead kb1 f)) (eqb (lengthOf s) 0) (formatForm f) (startOf kb1 s) (lengthOf s) h
+    zeros-by s (goodPair kb1 kb2) (eqb (length s) 0) (takesForm kb1 (formatForm f)) (isNowhere (placeRead kb1 f))
+    (eqb (lengthOf s) 0) (formatForm f) (startOf kb1 s) (lengthOf s) h
+
+-- ---- timing
+decides-below : (m : Micros) (l : Limit) → Decides (isBelow m l) (Below m l)
+unfolding isBelow isUnlimited
+decides-below m l =
+    either (eqb (l .0 .0) 18_446_744_073_709_551_615) (isEarlier m (l .0))
+    (same (eqb (l .0 .0) 18_446_744_073_709_551_615) (decides-eq (l .0 .0) 18_446_744_073_709_551_615)
+    (λ p i. record { 0 = record { 0 = p i } }, λ q. ap (λ (x : Limit). x .0 .0) q))
+    (λ _. decides-lt (m .0) (l .0 .0))
+
+-- The test on windows holds exactly when they are allowed.
+pub allowed-exactly : (w : Windows) → (isAllowed w ≡ true) ↔ Allowed w
+unfolding isAllowed
+allowed-exactly w =
+    let b2 = isBelow (w .p2min) (w .p2max) in
+    let b3 = isBelow (w .p3min) (w .p3max) in
+    same (b2 && b3 && isEarlier (w .p4min) p4max && isEarlier (w .p4min) (w .p3min))
+    (both (b2 && b3 && isEarlier (w .p4min) p4max) (isEarlier (w .p4min) (w .p3min))
+    (both (b2 && b3) (isEarlier (w .p4min) p4max)
+    (both b2 b3 (decides-below (w .p2min) (w .p2max)) (decides-below (w .p3min) (w .p3max))) (decides-lt (w .p4min .0) 20_000))
+    (decides-lt (w .p4min .0) (w .p3min .0)))
+    (λ h. record { p2 = h .0 .0 .0; p3 = h .0 .0 .1; p4 = h .0 .1; p3-above-p4 = h .1 }, λ a. (((a .p2, a .p3), a .p4), a .p3-above-p4))
+
+ten-by : {A P : Type 0} (number : A → ℕ) (b : Bool) (x y : A) → number x ≡ 0 → number y ≡ 10 → Decides b P
+    → ((number (if b then x else y) ≡ 10) ↔ Not P) × ((number (if b then x else y) ≡ 0) ↔ P)
+ten-by number true x y ex ey p = rw ex (misses 0 10 refl (λ f. f (p .0 refl)), meets 0 (p .0 refl))
+ten-by number false x y ex ey p = rw ey (meets 10 (off p), misses 10 0 refl (off p))
+
+zero-or-ten : {A : Type 0} (number : A → ℕ) (b : Bool) (x y : A) → number x ≡ 0 → number y ≡ 10
+    → (number (if b then x else y) ≡ 0) ⊎ (number (if b then x else y) ≡ 10)
+zero-or-ten number true x y ex ey = inl ex
+zero-or-ten number false x y ex ey = inr ey
+
+second-by : {A : Type 0} (number : A → ℕ) (b : Bool) (x y : A) → number x ≡ 0 → Not (number (if b then x else y) ≡ 0)
+    → (if b then x else y) ≡ y
+second-by number true x y ex h = absurd (h ex)
+second-by number false x y ex h = refl
+
+-- THE NUMBER OF TIMING CODES: 10 exactly when the windows that they stand for are not allowed, and 0 exactly when they are. There is no other number.
+pub decode-numbered : (c : Codes) → ((decodedOf c .no ≡ 10) ↔ Not (Allowed (windowsBy c))) × ((decodedOf c .no ≡ 0) ↔ Allowed (windowsBy c))
+unfolding decodedOf
+decode-numbered c = ten-by (λ (d : Decoded). d .no) (isAllowed (windowsBy c)) _ _ refl refl (allowed-exactly (windowsBy c))
+
+pub decode-no-other : (c : Codes) → (decodedOf c .no ≡ 0) ⊎ (decodedOf c .no ≡ 10)
+unfolding decodedOf
+decode-no-other c = zero-or-ten (λ (d : Decoded). d .no) (isAllowed (windowsBy c)) _ _ refl refl
+
+none-below-zero : (m : Micros) → Not (Below m (p2MaxOf 0))
+unfolding p2MaxOf p2Half
+none-below-zero m (inl e) = let q = ap (λ (l : Limit). l .0 .0) e in omega arith
+none-below-zero m (inr h) = omega arith
+
+-- "P2 max: .. 00 not allowed": it is a max of 0, and no min is below that.
+pub p2-max-zero : (c : Codes) → c .p2max ≡ 0 → decodedOf c .no ≡ 10
+unfolding windowsBy
+p2-max-zero c e = decode-numbered c .0 .1 (λ a. none-below-zero (minOf (c .p2min)) (subst (λ (k : ℕ). Below (minOf (c .p2min)) (p2MaxOf k)) e (a .p2)))
+
+-- THE NUMBER OF WINDOWS: 10 exactly when no allowed codes stand for them, "a window no code gives is 10", and 0 exactly when some do. There is no
+-- other number, and windows that are not allowed have none.
+pub encode-numbered : (w : Windows) → ((encodedOf w .no ≡ 10) ↔ Not (HasCodes w)) × ((encodedOf w .no ≡ 0) ↔ HasCodes w)
+encode-numbered w = (
+  (λ e h. absurd (omega (arith, codes-exactly w .1 h)), λ f. ap (λ (r : Encoded). r .no) (no-codes w f)),
+  codes-exactly w,
+)
+
+pub encode-no-other : (w : Windows) → (encodedOf w .no ≡ 0) ⊎ (encodedOf w .no ≡ 10)
+unfolding encodedOf
+encode-no-other w = zero-or-ten (λ (d : Encoded). d .no) (isAllowed w && sameWindows (windowsBy (codesBy w)) w) _ _ refl refl
+
+pub encode-allowed : (w : Windows) → encodedOf w .no ≡ 0 → Allowed w
+encode-allowed w e = allowed-exactly w .0 (and-split (isAllowed w) (sameWindows (windowsBy (codesBy w)) w) (encoded-test w e) .0)
+
+-- BESIDE A REFUSAL OF CODES OR WINDOWS every other number is 0.
+pub decode-zeros : (c : Codes) → Not (decodedOf c .no ≡ 0) → decodedOf c ≡ notDecoded
+unfolding decodedOf
+decode-zeros c h = second-by (λ (d : Decoded). d .no) (isAllowed (windowsBy c)) _ _ refl h
+
+pub encode-zeros : (w : Windows) → Not (encodedOf w .no ≡ 0) → encodedOf w ≡ notEncoded
+unfolding encodedOf
+encode-zeros w h = second-by (λ (d : Encoded). d .no) (isAllowed w && sameWindows (windowsBy (codesBy w)) w) _ _ refl h
