@@ -1,14 +1,24 @@
 -- DEMAND 1: an event gets the number whose condition holds and none smaller, and one that is refused changes nothing. This is said of any link, with
--- any counts and any event, also of those that no history gives; and of a history, whose own events decide it. A link that refused everything would
--- break it.
+-- any counts and any event, also of those that no history gives; of a history, whose own events decide it; and of frames built and read and timing codes.
+-- A link that refused everything would break it.
 -- Assumes nothing.
-use Prim.Native.Nat.{_≤_}
-use mathlib.Core.Logic.{⊎-elim}
+use Prim.Native.Nat.{ℕ, _≤_}
+use mathlib.Core.List.{List}
+use mathlib.Core.Logic.{_↔_, ⊎-elim}
 use mathlib.Core.Path.{_≡_, refl, sym, subst, _∙_}
 use native.Mathlib.Omega.{arith}
 use borrow.Author.Tests.{ne-eqb}
+use lib.ListN.{length}
 use Rattle.base.specs.Numbers.{taken}
 use Rattle.units.specs.Units.{micros}
+use Rattle.timing.specs.Timing.{windowsBy, notDecoded, decodedOf, notEncoded, encodedOf}
+use Rattle.timing.specs.declared.Windows.{Windows}
+use Rattle.timing.specs.declared.Codes.{Codes}
+use Rattle.timing.proofs.RoundTrip.{HasCodes}
+use Rattle.frame.specs.Build.{Builds}
+use Rattle.frame.specs.Read.{notRead, readOf}
+use Rattle.frame.specs.declared.Plan.{Plan}
+use Rattle.frame.specs.declared.Built.{Built}
 use Rattle.events.specs.Events.{isOther, isByte, isNobody, isUnknown, isTooLate, isOutOfOrder, refusal}
 use Rattle.events.specs.declared.Kind.the-variants.{Byte}
 use Rattle.events.specs.declared.Side.the-variants.{Tester}
@@ -22,10 +32,12 @@ use Rattle.link.specs.declared.Link.{Link}
 use Rattle.link.specs.declared.Stepped.{Stepped}
 use Rattle.demands.specs.Logs.{Log, clockOf, countOf, numberAfter, takenOf}
 use Rattle.demands.specs.Refusals.{Not, Unknown, TooLate, Above, Numbered}
+use Rattle.demands.specs.Frames.{BuildNumbered, ReadNumbered, Allowed}
 use Rattle.demands.specs.Histories.{ourStep, after, answerTo, reportsOf}
 use Rattle.demands.proofs.Numbering.{zero-small, small-not-above, number-numbered, log-numbered}
 use Rattle.demands.proofs.Invariant.{kept-of, kept-small, refused-answer, number-answered}
 use Rattle.demands.proofs.Basics as basics
+use Rattle.demands.proofs.Refusing as refusing
 use Rattle.demands.proofs.Computed.{retiming, computed}
 
 -- THE NUMBER OF AN EVENT, for any link, any counts, any event: 1, 2, 3 or 4 exactly when its condition holds and that of no smaller number does, and
@@ -82,3 +94,35 @@ history-numbered es e =
 -- .. since none of them ever comes to be above 4,000,000,000.
 pub never-above : (es : Log) → Not (Above (after ourStep es .counts))
 never-above es = small-not-above (after ourStep es .counts) (kept-small (after ourStep es) (takenOf es) (reportsOf ourStep es) (kept-of es))
+
+-- ---- FRAMES AND TIMING CODES
+-- Building gets 5, 6, 7 or 8 exactly when its condition holds and that of no smaller number does, and 0 exactly when none does: for every plan, data
+-- and buffer. Where it is refused, the buffer is as it was, and the length is 0.
+pub building-numbered : (p : Plan) (bytes out : List ℕ) (r : Built) (after : List ℕ) → Builds p bytes out r after
+    → BuildNumbered p (length bytes) (length out) (r .no)
+building-numbered = refusing.build-numbered
+
+pub building-as-before : (p : Plan) (bytes out : List ℕ) (r : Built) (after : List ℕ) → Builds p bytes out r after → Not (r .no ≡ 0)
+    → (after ≡ out) × (r .len ≡ 0)
+building-as-before = refusing.build-as-before
+
+-- Reading gets 5, 6, 7 or 9 exactly so, for every slice. Where it is refused, every other number is 0.
+pub reading-numbered : (kb1 kb2 : ℕ) (s : List ℕ) → ReadNumbered kb1 kb2 s (readOf kb1 kb2 s .no)
+reading-numbered = refusing.read-numbered
+
+pub reading-zeros : (kb1 kb2 : ℕ) (s : List ℕ) → Not (readOf kb1 kb2 s .no ≡ 0) → readOf kb1 kb2 s ≡ notRead (readOf kb1 kb2 s .no)
+reading-zeros = refusing.read-zeros
+
+-- Codes get 10 exactly if the windows that they count are not allowed, and windows exactly if no allowed codes stand for them; each gets 0 otherwise.
+-- Beside 10 every other number is 0.
+pub codes-numbered : (c : Codes) → ((decodedOf c .no ≡ 10) ↔ Not (Allowed (windowsBy c))) × ((decodedOf c .no ≡ 0) ↔ Allowed (windowsBy c))
+codes-numbered = refusing.decode-numbered
+
+pub windows-numbered : (w : Windows) → ((encodedOf w .no ≡ 10) ↔ Not (HasCodes w)) × ((encodedOf w .no ≡ 0) ↔ HasCodes w)
+windows-numbered = refusing.encode-numbered
+
+pub codes-zeros : (c : Codes) → Not (decodedOf c .no ≡ 0) → decodedOf c ≡ notDecoded
+codes-zeros = refusing.decode-zeros
+
+pub windows-zeros : (w : Windows) → Not (encodedOf w .no ≡ 0) → encodedOf w ≡ notEncoded
+windows-zeros = refusing.encode-zeros
