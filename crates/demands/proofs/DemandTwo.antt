@@ -38,9 +38,13 @@ use Rattle.demands.specs.Histories.{ourStep, after, answerTo, reportsTo,
 use Rattle.demands.specs.Accounts.{heldIn}
 use Rattle.demands.specs.Connecting.{Connects, Connected}
 use Rattle.demands.specs.Sessions.{Talk, Session, SomeSession, IsIn, Reads, Turns, gapBefore}
+use Rattle.demands.specs.Each.{Formed}
+use Rattle.demands.specs.Failing.{UnderWay, Fails}
 use Rattle.demands.specs.Endings.{Starter, NotIdle, WrongLow, NoReply, Starting, AnswersStop, Downs}
 use Rattle.demands.specs.Messages.{EndsInFrame, ReportsFrame}
 use Rattle.demands.proofs.Leaving as leaving
+use Rattle.demands.proofs.Each as each
+use Rattle.demands.proofs.Failing as failing
 use Rattle.demands.proofs.Exactly as exactly
 use Rattle.demands.proofs.Initializing as initializing
 use Rattle.demands.proofs.Becomes as becomes
@@ -171,13 +175,27 @@ wrong-low-exactly = leaving.wrong-low-exactly
 pub starting-exactly : (es : Log) → (isStarting (after ourStep es .link .phase .state) ≡ true) ↔ Starting ourStep es
 starting-exactly = initializing.starting-exactly
 
--- Report 4 with reason 2 exactly if A, W or D comes in an initialization whose window has not passed.
+-- In an initialization, by its start and its bytes so far and by what is due next: report 4 with reason 1 exactly if the present window's end has
+-- passed, with reason 4, 5 or 6 exactly if the byte in time is from the wrong side, else early, else does not fit; report 3 exactly if it is right and
+-- the last; and otherwise the initialization goes on.
+pub fails-exactly : (es : Log) (e : Event) → Starting ourStep es → (u : UnderWay (takenOf es)) → Fails ourStep es e u
+fails-exactly = failing.fails-exactly
+
+pub under-way : (es : Log) → Starting ourStep es → UnderWay (takenOf es)
+under-way = failing.under-way
+
+-- Report 4 with reason 2 exactly if A, W or D comes in an initialization, and makes no report 4 with reason 1.
 pub closed-start-exactly : (es : Log) (e : Event)
     → Tells failedReport closed (reportsTo ourStep es e)
     ↔ ((numberAfter (takenOf es) e ≡ taken) × Starting ourStep es × (Starter e ⊎ (e .kind ≡ Drop)) × Not (Tells failedReport windowOver (reportsTo ourStep es e)))
 closed-start-exactly = initializing.closed-start-exactly
 
--- Report 5 exactly if a byte comes in neither a session nor an initialization, or in one that ended as time passed to the byte.
+-- Outside an initialization a report 4 is one of a wrong low.
+pub never-else : (es : Log) (e : Event) (k : ℕ) → Not (Starting ourStep es) → Tells failedReport k (reportsTo ourStep es e) → k ≡ wrongLow
+never-else = failing.never-else
+
+-- Report 5 exactly if a byte comes in neither a session nor an initialization, or in one that ended as time passed to the byte (report 4 with reason 1,
+-- or report 7 with reason 2, at the same event).
 pub outside-exactly : (es : Log) (e : Event) → InBytes es
     → Says outsideReport (reportsTo ourStep es e)
     ↔ ((numberAfter (takenOf es) e ≡ taken) × (e .kind ≡ Byte)
@@ -185,3 +203,8 @@ pub outside-exactly : (es : Log) (e : Event) → InBytes es
     ⊎ Tells failedReport windowOver (reportsTo ourStep es e)
     ⊎ Tells downReport idleOver (reportsTo ourStep es e)))
 outside-exactly = initializing.outside-exactly
+
+-- Each report of an event has the event's end as its time, a number from 1 to 8, a reason that its number has and none where it has none; 6, 7 and 8 name
+-- no byte, 5 names one, 1, 2 and 3 at least one.
+pub each-formed : (es : Log) (e : Event) (r : Report) → Among r (reportsTo ourStep es e) → Formed e r
+each-formed = each.each-formed
