@@ -37,8 +37,8 @@ use Rattle.demands.specs.Logs.{Log, _▷_, InBytes, numberAfter, takenOf
 use Rattle.demands.specs.Histories.{ourStep, after, answerTo, reportsTo, Says, Among, Tells}
 use Rattle.demands.specs.Accounts.{heldIn}
 use Rattle.demands.specs.Connecting.{Connects, Connected}
-use Rattle.demands.specs.Sessions.{Talk, Session, SomeSession, IsIn, Reads, Turns, gapBefore}
-use Rattle.demands.specs.Endings.{Starter, NotIdle, WrongLow, NoReply, Starting, AnswersStop, Downs}
+use Rattle.demands.specs.Sessions.{Talk, Session, SomeSession, IsIn, Reads, Turns, gapBefore, NoReply}
+use Rattle.demands.specs.Endings.{Starter, NotIdle, WrongLow, Starting, AnswersStop, Downs}
 use Rattle.demands.specs.Messages.{EndsInFrame, ReportsFrame}
 use Rattle.demands.proofs.Leaving as leaving
 use Rattle.demands.proofs.Exactly as exactly
@@ -46,7 +46,7 @@ use Rattle.demands.proofs.Initializing as initializing
 use Rattle.demands.proofs.Becomes as becomes
 use Rattle.demands.proofs.Names as names
 use Rattle.demands.proofs.Session as session
-use Rattle.demands.proofs.Speaking as speaking
+use Rattle.demands.proofs.Opening as opening
 use Rattle.demands.proofs.Reporting as reporting
 
 -- ---- a. KEY BYTES, FRAMES, TIMING CODES: what the crates below have proved, in one place
@@ -127,14 +127,14 @@ frames-read = reporting.frames-read
 -- a first byte that is neither early nor stray over bytes of the same side, no more than 20 ms apart, until `read` takes what was heard of it.
 pub frames-exactly : (es : Log) (e : Event) (bytes : List ℕ) → InBytes (es ▷ e)
     → ReportsFrame (heardIn (es ▷ e)) (reportsTo ourStep es e) bytes ↔ EndsInFrame ourStep es e bytes
-frames-exactly = speaking.frames-exactly
+frames-exactly = opening.frames-exactly
 
 -- ---- d. DAMAGE, STRAY AND EARLY
 -- A report 1 or 2 names bytes from the first byte of a message on, and it is a damage with reason 3, or 4, exactly if that byte was early, or stray, by
 -- its side and its gap under the windows in force then.
 pub turns-exactly : (es : Log) (e : Event) (r : Report) → InBytes (es ▷ e) → Among r (reportsTo ourStep es e)
     → (r .number ≡ frameReport) ⊎ (r .number ≡ damageReport) → Turns ourStep (es ▷ e) r
-turns-exactly = reporting.turns-exactly
+turns-exactly = opening.turns-exactly
 
 -- ---- e. THE OTHER REPORTS
 -- Report 7 and its reasons, in a session: idle too long, dropped, restarted; ..
