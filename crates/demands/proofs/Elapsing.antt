@@ -31,12 +31,12 @@ use Rattle.demands.proofs.Passing.{Idled, quiet-is, open-is}
 use Rattle.demands.proofs.Acting.{quiet-shut}
 
 -- ---- the four rules by the phase alone
-abbrev leftOf : Phase → Micros → Micros → Phase
+abbrev pub leftOf : Phase → Micros → Micros → Phase
 leftOf p mark start =
     let gap = gapOf mark start in
     afterWindow (afterP3 (afterP2 (afterSilence p gap .phase) gap .phase) gap .phase) mark start .phase
 
-left-is : (r : Run) (mark start : Micros) → passed r mark start .phase ≡ leftOf (r .phase) mark start
+pub left-is : (r : Run) (mark start : Micros) → passed r mark start .phase ≡ leftOf (r .phase) mark start
 unfolding passed
 left-is r mark start =
     let gap = gapOf mark start in
@@ -54,7 +54,7 @@ module _ (p : Phase) (mark start : Micros) where
   abbrev gap : Micros
   gap = gapOf mark start
 
-  silence-open : isOpen (p .state) ≡ true → isSilent gap ≡ true → afterSilence p gap ≡ makes damageReport (lossReason p brokenOff) (settled p)
+  pub silence-open : isOpen (p .state) ≡ true → isSilent gap ≡ true → afterSilence p gap ≡ makes damageReport (lossReason p brokenOff) (settled p)
   unfolding afterSilence
   silence-open o s = rw (o, s) refl
 

@@ -63,9 +63,18 @@ abbrev pub replyOf : Log → Event → Talk → Reply
 replyOf before b t = replyAt t (heldIn stepOf before) (gapBefore (takenOf before) b)
 
 -- ---- silence in numbers
-silent-is : (gap : Micros) → (isSilent gap ≡ true) ↔ (20_000 < gap .0)
+pub silent-is : (gap : Micros) → (isSilent gap ≡ true) ↔ (20_000 < gap .0)
 unfolding isSilent
 silent-is gap = (λ s. ltb-true 20_000 (gap .0) s, λ s. lt-ltb 20_000 (gap .0) s)
+
+-- while something is open, bytes are held
+pub open-holds : (es : Log) → isOpen (after stepOf es .link .phase .state) ≡ true → 0 < heldIn stepOf es
+unfolding heldOf
+open-holds es p =
+    let l = after stepOf es .link in
+    let n = holds-some (l .phase .state) (l .named) (l .heard) p (kept-of es .holds) in
+    let h = held-is es in
+    omega arith
 
 down-loud : (p : Phase) → p ≡ down → isQuiet (p .state) ≡ false
 unfolding down isQuiet
@@ -107,18 +116,11 @@ module _ (before : Log) (b : Event) (t : Talk) (i : InBytes before) (o : OpensIn
       ⊎-elim (λ z. absurd (false≢true (sym (quiet-shut (l .phase .state) (holds-quiet before b t i (o .session) z) .0) ∙ p)))
       (λ z. silent-is gap .1 (subst (λ (g : Micros). 20_000 < g .0) (sym (same-gap before b t i (o .session))) z)) (o .alone)
 
-  open-held : isOpen (l .phase .state) ≡ true → 0 < heldIn stepOf before
-  unfolding heldOf
-  open-held p =
-      let n = holds-some (l .phase .state) (l .named) (l .heard) p (kept-of before .holds) in
-      let h = held-is before in
-      omega arith
-
   open-left : isOpen (l .phase .state) ≡ true → Left
   unfolding begun replyAt
   open-left p =
       settled-left (run-open (begun l b) (l .mark) (b .start) p (open-silent p) not-idled)
-      (rw (lt-ltb 0 (heldIn stepOf before) (open-held p)) refl)
+      (rw (lt-ltb 0 (heldIn stepOf before) (open-holds before p)) refl)
 
   -- the link's test is the history's
   same-test : StaysOut (l .phase) (l .mark) (b .start) ≡ (isFirst (t .reply) && isPassed (inForce t .p2max) (gapBefore (takenOf before) b))

@@ -1,5 +1,5 @@
--- What ends an initialization, a wait for a reply and a session, and which bytes are outside, told by the history (document 01, "Events and what the
--- link does"). That the link's reports are exactly these is stated in proofs/DemandTwo.antt.
+-- What ends an initialization and a session, told by the history (document 01, "Events and what the link does"). That the link's reports are exactly
+-- these is stated in proofs/DemandTwo.antt.
 -- Assumes nothing.
 use Prim.Native.Nat.{ℕ, _+_, _≤_, _<_}
 use mathlib.Core.Bool.{true}

@@ -1,4 +1,5 @@
--- A connected link's session, told by the history: its key bytes, the frames reported in it, the windows in force and the reply that may come.
+-- A connected link's session, told by the history: its key bytes, the frames reported in it, the windows in force and the reply that may come; what time
+-- ends in it; and the first byte of a message, told by the events before it.
 -- (document 01, "Connected." and "By their data")
 -- Assumes nothing.
 use Prim.Native.Nat.{ℕ, _<_}
