@@ -21,7 +21,7 @@ use Rattle.demands.proofs.Opening.{opening}
 
 -- ---- reports one behind the other
 -- each lies between the ends
-pub tiled-within : {n m : ℕ} {xs : List Report} {x : Report} → Tiled n xs m → Among x xs → (n ≤ x .first) × (x .first + x .bytes ≤ m)
+tiled-within : {n m : ℕ} {xs : List Report} {x : Report} → Tiled n xs m → Among x xs → (n ≤ x .first) × (x .first + x .bytes ≤ m)
 tiled-within end a = absurd (not-among a)
 tiled-within (next e f t) first = (omega arith, omega (arith, tiled-order t))
 tiled-within (next e f t) (later a) = let z = tiled-within t a in let y = z .0 in (omega arith, z .1)

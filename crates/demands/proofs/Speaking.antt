@@ -456,7 +456,8 @@ last-reports es e t b bytes i (grows {bytes = front} s q m j d near) k n r = by-
         ∙ eq-eqb _ taken r))
     by-stand (done x) = absurd (q x)
 
--- A BYTE IS REPORTED AS A FRAME exactly if it ends a message of the session in bytes that `read` takes, and the report names these
+-- A BYTE IS REPORTED AS A FRAME exactly if it ends a message in bytes that `read` takes, and the report names these; by the session behind the message's
+-- first byte (`frames-exactly` in `Opening`)
 pub frames-behind : (es : Log) (e : Event) (bytes : List ℕ) → InBytes (es ▷ e)
     → ReportsFrame (heardIn (es ▷ e)) (reportsTo stepOf es e) bytes ↔ Finishes es e bytes
 frames-behind es e bytes i = (
