@@ -37,7 +37,8 @@ use Rattle.demands.proofs.Basics.{basics, answer-taken, answer-refused,
 use Rattle.demands.proofs.Names.{connects-names}
 use Rattle.demands.proofs.Carrying.{Kept, kept-none}
 use Rattle.demands.proofs.Saying.{Each, each-none, among-right}
-use Rattle.demands.specs.Messages.{InTime, refused, waits}
+use Rattle.demands.specs.Messages.{InTime}
+use Rattle.demands.proofs.Behind.{refused, waits}
 use Rattle.demands.proofs.Listening.{heard-bytes, byte-more, other-more, refused-more}
 use Rattle.demands.proofs.Recent.{passed-recent, not-silent}
 use Rattle.demands.proofs.Reasons.{not-other}

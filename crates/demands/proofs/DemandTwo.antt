@@ -2,13 +2,13 @@
 -- bytes reads back. The link connects exactly when every byte, complement and window of an initialization holds, and each report is the one document
 -- 01's rules give."
 -- The statements; the work is in the files that each cites. Assumes nothing.
-use Prim.Native.Nat.{ℕ, _<_}
+use Prim.Native.Nat.{ℕ, _+_, _≤_, _<_}
 use mathlib.Core.Bool.{true, false, _&&_}
 use mathlib.Core.List.{List}
 use mathlib.Core.Logic.{_↔_, _⊎_}
 use mathlib.Core.Path.{_≡_}
 use lib.Dec.{eqb}
-use lib.ListN.{getD}
+use lib.ListN.{length, getD}
 use Rattle.base.specs.Numbers.{taken}
 use Rattle.base.specs.Reports.{frameReport, damageReport, connectedReport, failedReport, outsideReport, noReplyReport, downReport, notIdleReport}
 use Rattle.base.specs.Reports.{closed, windowOver, wrongLow, stopped, idleOver}
@@ -33,14 +33,19 @@ use Rattle.talk.proofs.Frames.{isMessage, message-reads}
 use Rattle.phases.specs.Phases.{isStarting, isConnected}
 use Rattle.reports.specs.declared.Report.{Report}
 use Rattle.demands.specs.Refusals.{Not}
-use Rattle.demands.specs.Logs.{Log, _▷_, InBytes, numberAfter, takenOf, heardIn}
-use Rattle.demands.specs.Histories.{ourStep, after, answerTo, reportsTo, Says, Among, Tells}
+use Rattle.demands.specs.Logs.{Log, _▷_, InBytes, numberAfter, takenOf, heardIn, Begins}
+use Rattle.demands.specs.Histories.{ourStep, after, answerTo, reportsTo, reportsOf, Says, Among, Tells}
 use Rattle.demands.specs.Accounts.{heldIn}
 use Rattle.demands.specs.Connecting.{Connects, Connected}
+<<<<<<< HEAD
 use Rattle.demands.specs.Sessions.{Talk, Session, SomeSession, IsIn, Reads, Turns, gapBefore}
 use Rattle.demands.specs.Each.{Formed}
 use Rattle.demands.specs.Failing.{UnderWay, Fails}
 use Rattle.demands.specs.Endings.{Starter, NotIdle, WrongLow, NoReply, Starting, AnswersStop, Downs}
+=======
+use Rattle.demands.specs.Sessions.{Talk, Session, SomeSession, IsIn, Reads, OpensIn, Turns, gapBefore, NoReply}
+use Rattle.demands.specs.Endings.{Starter, NotIdle, WrongLow, Starting, AnswersStop, Downs}
+>>>>>>> bc72842e24d461b84a10454e269d86d7bdb5ce13
 use Rattle.demands.specs.Messages.{EndsInFrame, ReportsFrame}
 use Rattle.demands.proofs.Leaving as leaving
 use Rattle.demands.proofs.Each as each
@@ -50,7 +55,9 @@ use Rattle.demands.proofs.Initializing as initializing
 use Rattle.demands.proofs.Becomes as becomes
 use Rattle.demands.proofs.Names as names
 use Rattle.demands.proofs.Session as session
-use Rattle.demands.proofs.Speaking as speaking
+use Rattle.demands.proofs.Opening as opening
+use Rattle.demands.proofs.Beginning as beginning
+use Rattle.demands.proofs.Damaging as damaging
 use Rattle.demands.proofs.Reporting as reporting
 
 -- ---- a. KEY BYTES, FRAMES, TIMING CODES: what the crates below have proved, in one place
@@ -128,17 +135,40 @@ pub frames-read : (es : Log) (e : Event) (r : Report) → InBytes (es ▷ e) →
 frames-read = reporting.frames-read
 
 -- And the other way round: a report 1 names these bytes exactly if the event is the byte that ends a message of the session in them. A message goes from
--- a first byte that is neither early nor stray over bytes of the same side, no more than 20 ms apart, until `read` takes what was heard of it.
+-- a first byte that is neither early nor stray over bytes of the same side, no more than 20 ms apart, until `read` takes what was heard of it. Which
+-- byte is a first one, and whether it is early or stray, is said by the events before it and their reports, and by nothing that is reported of it.
 pub frames-exactly : (es : Log) (e : Event) (bytes : List ℕ) → InBytes (es ▷ e)
     → ReportsFrame (heardIn (es ▷ e)) (reportsTo ourStep es e) bytes ↔ EndsInFrame ourStep es e bytes
-frames-exactly = speaking.frames-exactly
+frames-exactly = opening.frames-exactly
 
 -- ---- d. DAMAGE, STRAY AND EARLY
 -- A report 1 or 2 names bytes from the first byte of a message on, and it is a damage with reason 3, or 4, exactly if that byte was early, or stray, by
--- its side and its gap under the windows in force then.
+-- its side and its gap under the windows in force then, and by the reply that may come behind the time before it.
 pub turns-exactly : (es : Log) (e : Event) (r : Report) → InBytes (es ▷ e) → Among r (reportsTo ourStep es e)
     → (r .number ≡ frameReport) ⊎ (r .number ≡ damageReport) → Turns ourStep (es ▷ e) r
-turns-exactly = reporting.turns-exactly
+turns-exactly = opening.turns-exactly
+
+-- No first byte escapes this: whatever events follow, the report that names a byte which opens a message begins with it.
+pub opens-first : (before : Log) (b : Event) (t : Talk) → InBytes (before ▷ b) → OpensIn ourStep before b t → (es : Log) → Begins (before ▷ b) es → InBytes es
+    → (r : Report) → Among r (reportsOf ourStep es) → r .first ≤ length (heardIn before) → length (heardIn before) < r .first + r .bytes
+    → r .first ≡ length (heardIn before)
+opens-first = beginning.opens-first
+
+-- Report 2, in a session, exactly if something is held and either 20 ms have passed since the mark or A, W or D comes; ..
+pub damage-exactly : (es : Log) (e : Event) (t : Talk) → InBytes es → Session ourStep es t
+    → Says damageReport (reportsTo ourStep es e)
+    ↔ ((numberAfter (takenOf es) e ≡ taken) × (0 < heldIn ourStep es) × ((20_000 < gapBefore (takenOf es) e .0) ⊎ Starter e ⊎ (e .kind ≡ Drop)))
+damage-exactly = damaging.damage-exactly
+
+-- .. and it names all that is held before the event, up to the last byte heard.
+pub damage-names : (es : Log) (e : Event) (r : Report) → Among r (reportsTo ourStep es e) → r .number ≡ damageReport
+    → (r .bytes ≡ heldIn ourStep es) × (r .first + r .bytes ≡ length (heardIn es))
+damage-names = damaging.damage-names
+
+-- Outside a session there is neither a report 1 nor a report 2.
+pub messages-in-session : (es : Log) (e : Event) (r : Report) → InBytes (es ▷ e) → Among r (reportsTo ourStep es e)
+    → (r .number ≡ frameReport) ⊎ (r .number ≡ damageReport) → SomeSession ourStep es
+messages-in-session = reporting.comes-in
 
 -- ---- e. THE OTHER REPORTS
 -- Report 7 and its reasons, in a session: idle too long, dropped, restarted; ..

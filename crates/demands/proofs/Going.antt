@@ -17,7 +17,6 @@ use Rattle.units.specs.declared.Micros.{Micros}
 use Rattle.keys.specs.Keys.{goodPair}
 use Rattle.timing.specs.Timing.{isPassed}
 use Rattle.frame.specs.Read.{readOf, dataOf}
-use Rattle.events.specs.declared.Kind.the-variants.{Byte}
 use Rattle.events.specs.declared.Side.the-variants.{Unit}
 use Rattle.events.specs.declared.Event.{Event}
 use Rattle.starts.specs.Starts.{isOver}
@@ -36,13 +35,12 @@ use Rattle.reports.specs.declared.Report.{Report}
 use Rattle.reports.specs.declared.Run.{Run}
 use Rattle.link.specs.Handling.{passed}
 use Rattle.link.proofs.Three.{tells, passedTells}
-use Rattle.link.specs.Stepping.{stepOf}
 use Rattle.demands.specs.Endings.{Answers}
-use Rattle.demands.specs.Logs.{Log, _▷_, heardIn, numberAfter, takenOf, Begins, more}
+use Rattle.demands.specs.Logs.{Log, _▷_, heardIn, takenOf, Begins, more}
 use Rattle.demands.specs.Histories.{isAmong, Tells}
 use Rattle.demands.specs.Accounts.{namedBy}
-use Rattle.demands.specs.Sessions.{Frames, stops, pendingIn, Talk, afterReport, talkAfter, Session, inForce, gapBefore, Stray, Early, Turns}
-use Rattle.demands.specs.Messages.{Speaks, EndsInFrame}
+use Rattle.demands.specs.Sessions.{Frames, stops, pendingIn, Talk, afterReport, talkAfter, inForce, gapBefore, Stray, Early}
+use Rattle.demands.proofs.Behind.{FirstOf, Speaking, Finishes, Turned}
 use Rattle.demands.proofs.Carrying.{Kept, GoneOn}
 use Rattle.demands.proofs.Saying.{Each, each-none, each-one, each-both, says-both, talk-both}
 
@@ -65,7 +63,7 @@ pub record Holds (es : Log) (t : Talk) (b : Event) (p : Phase) (named : ℕ) : T
   pub right : headReason (p .start .kb1) head ≡ noReason
   pub gone : GoneOn (b .side) (opening-message (b .side) head) rest (p .message)
   pub whose : p .message .side ≡ b .side
-  pub spoken : Speaks stepOf t b es (head ∷ rest)
+  pub spoken : Speaking t b es (head ∷ rest)
 
 -- A message held or damage: its first byte, and whether that was early or stray; no report was made since, so that the session is the present one.
 -- While it is the only byte, a message is held if there is no reason against it.
@@ -73,12 +71,10 @@ pub record Opened (es : Log) (t : Talk) (p : Phase) (named : ℕ) : Type 0 where
   pub before : Log
   pub byte : Event
   pub begins : Begins (before ▷ byte) es
-  pub kind : byte .kind ≡ Byte
-  pub number : numberAfter (takenOf before) byte ≡ taken
+  pub first : FirstOf t before byte
   pub index : length (heardIn before) ≡ named
-  pub session : Session stepOf (before ▷ byte) t
-  pub hasty : (lossReason p noReason ≡ early) ↔ Early t (gapBefore (takenOf before) byte) byte
-  pub astray : (lossReason p noReason ≡ stray) ↔ Stray t (gapBefore (takenOf before) byte) byte
+  pub hasty : (lossReason p noReason ≡ early) ↔ Early t (t .reply) (gapBefore (takenOf before) byte) byte
+  pub astray : (lossReason p noReason ≡ stray) ↔ Stray t (t .reply) (gapBefore (takenOf before) byte) byte
   pub fresh : length (heardIn es) ≡ named + 1
       → firstReason (t .kb1) (t .reply) (inForce t) (byte .side) (byte .value) (gapBefore (takenOf before) byte) ≡ noReason
       → isHeld (p .state) ≡ true
@@ -93,7 +89,7 @@ pub record At (es : Log) (t : Talk) (p : Phase) (named heard : ℕ) : Type 0 whe
 
 -- an event that is no byte heard, and leaves a message open, changes nothing of this
 abbrev pub SpeaksOn : Log → Event → Talk → Type 0
-SpeaksOn es e t = (b : Event) (bytes : List ℕ) → Speaks stepOf t b es bytes → Speaks stepOf t b (es ▷ e) bytes
+SpeaksOn es e t = (b : Event) (bytes : List ℕ) → Speaking t b es bytes → Speaking t b (es ▷ e) bytes
 
 module _ (es : Log) (e : Event) (t : Talk) (p : Phase) (named : ℕ) (same : heardIn (es ▷ e) ≡ heardIn es) where
   holds-more : (b : Event) → SpeaksOn es e t → Holds es t b p named → Holds (es ▷ e) t b p named
@@ -112,10 +108,8 @@ module _ (es : Log) (e : Event) (t : Talk) (p : Phase) (named : ℕ) (same : hea
     before = o .before;
     byte = o .byte;
     begins = more (o .begins);
-    kind = o .kind;
-    number = o .number;
+    first = o .first;
     index = o .index;
-    session = o .session;
     hasty = o .hasty;
     astray = o .astray;
     fresh = λ n. o .fresh (sym (ap length same) ∙ n);
@@ -151,8 +145,8 @@ never-starting Damage c s = false≢true s
 -- a report of the event e behind es, in a session with these key bytes and these frames; `all` are the event's reports
 pub record Shows (es : Log) (e : Event) (kb1 kb2 : ℕ) (fs : Frames) (all : List Report) (x : Report) : Type 0 where
   pub reads : x .number ≡ frameReport → readOf kb1 kb2 (namedBy (heardIn (es ▷ e)) x) .no ≡ taken
-  pub spoken : x .number ≡ frameReport → EndsInFrame stepOf es e (namedBy (heardIn (es ▷ e)) x)
-  pub turns : (x .number ≡ frameReport) ⊎ (x .number ≡ damageReport) → Turns stepOf (es ▷ e) x
+  pub spoken : x .number ≡ frameReport → Finishes es e (namedBy (heardIn (es ▷ e)) x)
+  pub turns : (x .number ≡ frameReport) ⊎ (x .number ≡ damageReport) → Turned (es ▷ e) x
   pub answers : x .number ≡ downReport → x .reason ≡ stopped → Answers kb1 kb2 fs (e .side) (heardIn (es ▷ e)) all
   pub stops : x .number ≡ frameReport → e .side ≡ Unit → stops (pendingIn kb1 kb2 fs) (dataOf kb1 kb2 (namedBy (heardIn (es ▷ e)) x)) ≡ true
       → Tells downReport stopped all
@@ -216,18 +210,14 @@ module _ (es : Log) (e : Event) (all : List Report) where
   -- a report that names what is open from its first byte on
   pub turned : (t : Talk) (p : Phase) (named : ℕ) (x : Report) → Opened es t p named → x .first ≡ named
       → (((x .number ≡ damageReport) × (x .reason ≡ early)) ↔ (lossReason p noReason ≡ early))
-      → (((x .number ≡ damageReport) × (x .reason ≡ stray)) ↔ (lossReason p noReason ≡ stray)) → Turns stepOf (es ▷ e) x
+      → (((x .number ≡ damageReport) × (x .reason ≡ stray)) ↔ (lossReason p noReason ≡ stray)) → Turned (es ▷ e) x
   turned t p named x o n f g = record {
-    first = record {
-      before = o .before;
-      byte = o .byte;
-      talk = t;
-      begins = more (o .begins);
-      kind = o .kind;
-      number = o .number;
-      index = o .index ∙ sym n;
-      session = o .session;
-    };
+    before = o .before;
+    byte = o .byte;
+    talk = t;
+    begins = more (o .begins);
+    first = o .first;
+    index = o .index ∙ sym n;
     early = (λ q. o .hasty .0 (f .0 q), λ q. f .1 (o .hasty .1 q));
     stray = (λ q. o .astray .0 (g .0 q), λ q. g .1 (o .astray .1 q));
   }

@@ -54,9 +54,10 @@ use Rattle.demands.specs.Sessions.{Frame, Frames, _▸_, stops, resets, 
 use Rattle.demands.specs.Sessions.{talkAfter, Session, inForce, gapBefore, Stray, Early}
 use Rattle.demands.proofs.Carrying.{Carries, Kept, begun as gone-none, on, gone-by, gone-ends, ends-now, kept-asked, message-carries}
 use Rattle.demands.proofs.Carrying.{reply-windows, reply-request, reply-stops}
-use Rattle.demands.specs.Messages.{InTime, Speaks, begins, grows}
+use Rattle.demands.specs.Messages.{InTime}
+use Rattle.demands.proofs.Behind.{FirstOf, Speaking, begins, grows}
 use Rattle.demands.proofs.Tiling.{sum-is}
-use Rattle.demands.proofs.Listening.{Bytes, byte-longer, begins-longer, alone-is}
+use Rattle.demands.proofs.Listening.{Bytes, byte-longer, begins-longer}
 use Rattle.demands.proofs.Saying.{Each, each-none, each-one, each-both}
 use Rattle.demands.proofs.Reasons.{same-is, has-side, first-early, first-stray, first-head, later-elsewhere}
 use Rattle.demands.proofs.Going.{Fits, Holds, Opened, At, Told, plain, turned}
@@ -179,14 +180,17 @@ module _ (es : Log) (e : Event) (all : List Report) (kind : e .kind ≡ Byte) (n
     reason-by : reason ≡ firstReason (t .kb1) (t .reply) (inForce t) (e .side) (e .value) (gapBefore (takenOf es) e)
     reason-by = reason-is ∙ ap (λ (k : ℕ). firstReason k (t .reply) (inForce t) (e .side) (e .value) (gapBefore (takenOf es) e)) (a .fits .kb1)
 
-    reason-early : (k : ℕ) → k ≡ reason → (k ≡ early) ↔ Early t (gapBefore (takenOf es) e) e
+    reason-early : (k : ℕ) → k ≡ reason → (k ≡ early) ↔ Early t (t .reply) (gapBefore (takenOf es) e) e
     reason-early k q = rw (q ∙ reason-is) (first-early t (gapBefore (takenOf es) e) e sided (p .start .kb1))
 
-    reason-stray : (k : ℕ) → k ≡ reason → (k ≡ stray) ↔ Stray t (gapBefore (takenOf es) e) e
+    reason-stray : (k : ℕ) → k ≡ reason → (k ≡ stray) ↔ Stray t (t .reply) (gapBefore (takenOf es) e) e
     reason-stray k q = rw (q ∙ reason-is) (first-stray t (gapBefore (takenOf es) e) e sided (p .start .kb1))
 
     named-is : length (heardIn es) ≡ named
     named-is = sym (a .bytes) ∙ sym (a .calm quiet)
+
+    opening : FirstOf t es e
+    opening = record { session = s; kind = kind; number = number; alone = last ∙ sym named-is }
 
     first-held : reason ≡ noReason → At (es ▷ e) t (holding p (begun (e .side) (e .value))) named (countSum heard 1)
     unfolding holding talking isConnected isQuiet lossReason isHeld begun reasonAtFirst
@@ -200,10 +204,8 @@ module _ (es : Log) (e : Event) (all : List Report) (kind : e .kind ≡ Byte) (n
             before = es;
             byte = e;
             begins = whole;
-            kind = kind;
-            number = number;
+            first = opening;
             index = named-is;
-            session = s;
             hasty = reason-early noReason (sym z);
             astray = reason-stray noReason (sym z);
             fresh = λ _ _. refl;
@@ -215,10 +217,7 @@ module _ (es : Log) (e : Event) (all : List Report) (kind : e .kind ≡ Byte) (n
               gone = gone-none;
               whose = refl;
               spoken = begins (record {
-                session = s;
-                kind = kind;
-                number = number;
-                alone = alone-is es e one-more (named-is ∙ sym last);
+                first = opening;
                 timely = λ q. let k = reason-early noReason (sym z) .1 q in omega arith;
                 expected = λ q. let k = reason-stray noReason (sym z) .1 q in omega arith;
               });
@@ -238,10 +237,8 @@ module _ (es : Log) (e : Event) (all : List Report) (kind : e .kind ≡ Byte) (n
             before = es;
             byte = e;
             begins = whole;
-            kind = kind;
-            number = number;
+            first = opening;
             index = named-is;
-            session = s;
             hasty = reason-early reason refl;
             astray = reason-stray reason refl;
             fresh = λ _ z. absurd (n (reason-by ∙ z));
@@ -276,15 +273,13 @@ module _ (es : Log) (e : Event) (all : List Report) (kind : e .kind ≡ Byte) (n
     before = o .before;
     byte = o .byte;
     begins = more (o .begins);
-    kind = o .kind;
-    number = o .number;
+    first = o .first;
     index = o .index;
-    session = o .session;
     hasty = (λ x. o .hasty .0 (f .0 x), λ x. f .1 (o .hasty .1 x));
     astray = (λ x. o .astray .0 (g .0 x), λ x. g .1 (o .astray .1 x));
     fresh = λ n.
         let longer = begins-longer (o .begins) in
-        let first = byte-longer (o .before) (o .byte) (o .number) (o .kind) in
+        let first = byte-longer (o .before) (o .byte) (o .first .number) (o .first .kind) in
         let size = ap length one-more in
         let one = length-append (heardIn es) (e .value ∷ []) in
         let index = o .index in
@@ -363,7 +358,7 @@ module _ (es : Log) (e : Event) (all : List Report) (kind : e .kind ≡ Byte) (n
         ∙ gone-ends side (begun side (held .head)) (r .phase .message) (held .rest) [] (held .gone) in
         false≢true (sym (rw (right-head) k) ∙ m)
 
-    speaks-on : wrong ≡ noReason → Speaks stepOf t (o .byte) (es ▷ e) slice
+    speaks-on : wrong ≡ noReason → Speaking t (o .byte) (es ▷ e) slice
     speaks-on w = grows (held .spoken) not-yet number kind (side-is w) near
 
     later-held : wrong ≡ noReason → isSum (r .phase .message .part) ≡ false
@@ -491,7 +486,7 @@ module _ (es : Log) (e : Event) (all : List Report) (kind : e .kind ≡ Byte) (n
             spoken = λ _. record {
               talk = t;
               first = o .byte;
-              message = subst (Speaks stepOf t (o .byte) (es ▷ e)) (sym names) (speaks-on w);
+              message = subst (Speaking t (o .byte) (es ▷ e)) (sym names) (speaks-on w);
               kind = kind;
               number = number;
               read = reads;

@@ -31,9 +31,9 @@ use Rattle.demands.specs.Logs.{Log, markOf, numberAfter, takenOf, InByte
 use Rattle.demands.specs.Refusals.{Not}
 use Rattle.demands.specs.Histories.{after, reportsTo, Says, Tells}
 use Rattle.demands.specs.Starts.{Low}
-use Rattle.demands.specs.Sessions.{Talk, Session, inForce, IsIn, gapBefore, SomeSession}
+use Rattle.demands.specs.Sessions.{Talk, Session, inForce, IsIn, gapBefore, SomeSession, NoReply, IdleOver}
 use Rattle.demands.specs.Accounts.{heldIn}
-use Rattle.demands.specs.Endings.{NotIdle, WrongLow, NoReply, IdleOver, Downs}
+use Rattle.demands.specs.Endings.{NotIdle, WrongLow, Downs}
 use Rattle.demands.proofs.Holding.{holds-some, holds-none}
 use Rattle.demands.proofs.Invariant.{kept-of}
 use Rattle.demands.proofs.Basics.{basics, held-is}
@@ -142,7 +142,7 @@ module _ (es : Log) (e : Event) (t : Talk) (b : InBytes es) (s : Session stepOf 
   is-in : IsIn t l
   is-in = session-link es t b s
 
-  quiet-holds : isQuiet (l .phase .state) ≡ true → held ≡ 0
+  pub quiet-holds : isQuiet (l .phase .state) ≡ true → held ≡ 0
   unfolding heldOf
   quiet-holds q =
       let i = held-is es in
@@ -150,23 +150,23 @@ module _ (es : Log) (e : Event) (t : Talk) (b : InBytes es) (s : Session stepOf 
       let n = holds-none (l .phase .state) (l .named) (l .heard) (x .0) (x .1) (kept-of es .holds) in
       omega arith
 
-  holds-quiet : held ≡ 0 → isQuiet (l .phase .state) ≡ true
+  pub holds-quiet : held ≡ 0 → isQuiet (l .phase .state) ≡ true
   unfolding heldOf
   holds-quiet z =
       let i = held-is es in
       open-or (isQuiet (l .phase .state) ≡ true) (l .phase .state) (is-in .connected)
       (λ o. let n = holds-some (l .phase .state) (l .named) (l .heard) o (kept-of es .holds) in absurd (omega arith)) (λ q. q)
 
-  replied : l .phase .reply ≡ t .reply
+  pub replied : l .phase .reply ≡ t .reply
   replied = is-in .reply
 
-  same-gap : gapOf (l .mark) (e .start) ≡ gap
+  pub same-gap : gapOf (l .mark) (e .start) ≡ gap
   same-gap = ap (λ (x : Micros). gapOf x (e .start)) (basics es .mark)
 
   same-passed : (limit : Windows → Limit) → isPassed (limit (l .phase .windows)) (gapOf (l .mark) (e .start)) ≡ isPassed (limit (inForce t)) gap
   same-passed limit = ap (λ (w : Windows). isPassed (limit w) (gapOf (l .mark) (e .start))) (is-in .windows) ∙ ap (isPassed (limit (inForce t))) same-gap
 
-  same-p2 : isPassed (l .phase .windows .p2max) (gapOf (l .mark) (e .start)) ≡ isPassed (inForce t .p2max) gap
+  pub same-p2 : isPassed (l .phase .windows .p2max) (gapOf (l .mark) (e .start)) ≡ isPassed (inForce t .p2max) gap
   same-p2 = same-passed (λ (w : Windows). w .p2max)
 
   same-p3 : isPassed (l .phase .windows .p3max) (gapOf (l .mark) (e .start)) ≡ isPassed (inForce t .p3max) gap
@@ -178,7 +178,7 @@ module _ (es : Log) (e : Event) (t : Talk) (b : InBytes es) (s : Session stepOf 
     λ n. (holds-quiet (n .1), is-first (l .phase .reply) (replied ∙ n .0), same-p2 ∙ n .2),
   )
 
-  idled-is : Idled (l .phase) (gapOf (l .mark) (e .start)) ↔ IdleOver t held gap
+  pub idled-is : Idled (l .phase) (gapOf (l .mark) (e .start)) ↔ IdleOver t held gap
   idled-is = (
     λ i. (sym same-p3 ∙ i .1, λ f z. sym same-p2 ∙ i .2 (holds-quiet z) (is-first (l .phase .reply) (replied ∙ f))),
     λ i. (is-in .connected, same-p3 ∙ i .0, λ q f. same-p2 ∙ i .1 (sym replied ∙ first-is (l .phase .reply) f) (quiet-holds q)),

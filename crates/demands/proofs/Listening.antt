@@ -1,15 +1,12 @@
--- The bytes heard in a history: they are bytes, they grow with the log by the bytes taken, and reports name them up to the link's own index.
--- Assumes nothing.
+-- The bytes heard in a history: they are bytes, and they grow with the log by the bytes taken. Assumes nothing.
 use Prim.Native.Nat.{ℕ, zero, suc, _+_, _≤_, _<_}
 use mathlib.Core.Bool.{false}
 use mathlib.Core.List.{List, [], _∷_, _++_, append-nil}
-use mathlib.Core.Path.{_≡_, sym, ap, _∙_}
-use native.Mathlib.Nat.{sub-zero}
+use mathlib.Core.Path.{_≡_, ap, _∙_}
 use native.Mathlib.Omega.{arith}
 use borrow.Author.Tests.{eq-eqb}
 use lib.Dec.{eqb}
-use lib.ListN.{length, getD, take, length-append}
-use lib.Seq.{take-at, length-take-le}
+use lib.ListN.{length, getD, length-append}
 use Rattle.base.specs.Choice.{if_then_else_}
 use Rattle.base.specs.Numbers.{taken}
 use Rattle.base.proofs.Tests.{by-test}
@@ -17,13 +14,7 @@ use Rattle.events.specs.Events.{isByte}
 use Rattle.events.specs.declared.Kind.{Kind}
 use Rattle.events.specs.declared.Kind.the-variants.{Byte}
 use Rattle.events.specs.declared.Event.{Event}
-use Rattle.link.specs.Stepping.{stepOf}
 use Rattle.demands.specs.Logs.{Log, none, _▷_, heardOf, heardIn, numberAfter, takenOf, InBytes, Begins, whole, more}
-use Rattle.demands.specs.Histories.{after, reportsOf}
-use Rattle.demands.specs.Accounts.{allNamed}
-use Rattle.demands.proofs.Invariant.{kept-of}
-use Rattle.demands.proofs.Basics.{basics}
-use Rattle.demands.proofs.Naming.{tiled-names}
 
 -- ---- they are bytes
 abbrev pub Bytes : List ℕ → Type 0
@@ -79,24 +70,3 @@ begins-longer {front = front} (more {es = es} {e = e} b) =
     by-test (λ (log : Log). length (heardIn front) ≤ length (heardOf log)) (eqb (numberAfter (takenOf es) e) taken) {x = takenOf es ▷ e}
     {y = takenOf es}
     (λ _. omega (arith, length-append (heardIn es) (if isByte (e .kind) then e .value ∷ [] else []))) (λ _. x)
-
--- ---- and reports name them
-named-is : (es : Log) → allNamed (heardIn es) (reportsOf stepOf es) ≡ take (after stepOf es .link .named) (heardIn es)
-named-is es =
-    let n = after stepOf es .link .named in
-    tiled-names (heardIn es) (kept-of es .tiled) ∙ ap (λ (k : ℕ). take k (heardIn es)) (sub-zero n)
-
--- all but the last byte are named exactly if the link's index is that of the last byte
-pub alone-is : (es : Log) (e : Event) → heardIn (es ▷ e) ≡ heardIn es ++ (e .value ∷ []) → length (heardIn es) ≡ after stepOf (es ▷ e) .link .named
-    → allNamed (heardIn (es ▷ e)) (reportsOf stepOf (es ▷ e)) ≡ heardIn es
-alone-is es e q n =
-    let k = after stepOf (es ▷ e) .link .named in
-    named-is (es ▷ e) ∙ ap (take k) q ∙ take-at (heardIn es) (e .value ∷ []) k n
-
-pub alone-named : (es : Log) (e : Event) → allNamed (heardIn (es ▷ e)) (reportsOf stepOf (es ▷ e)) ≡ heardIn es
-    → after stepOf (es ▷ e) .link .named ≡ length (heardIn es)
-alone-named es e q =
-    let b = basics (es ▷ e) in
-    let k = after stepOf (es ▷ e) .link .named in
-    let h : k ≤ length (heardIn (es ▷ e)) = omega (arith, b .named, b .heard) in
-    sym (length-take-le k (heardIn (es ▷ e)) h) ∙ ap length (sym (named-is (es ▷ e)) ∙ q)

@@ -89,7 +89,7 @@ has-side log e h k = by-side (isNobody (e .side)) refl
 
 module _ (t : Talk) (gap : Micros) (b : Event) where
   -- ---- from the tester
-  tester-early : b .side ≡ Tester → (testerTurn (t .reply) (inForce t) gap ≡ early) ↔ Early t gap b
+  tester-early : b .side ≡ Tester → (testerTurn (t .reply) (inForce t) gap ≡ early) ↔ Early t (t .reply) gap b
   unfolding testerTurn isFirst
   tester-early s = (
     λ e. inl (
@@ -101,7 +101,7 @@ module _ (t : Talk) (gap : Micros) (b : Event) where
         (λ x. absurd (not-unit (b .side) s (x .0))),
   )
 
-  tester-stray : b .side ≡ Tester → (testerTurn (t .reply) (inForce t) gap ≡ stray) ↔ Stray t gap b
+  tester-stray : b .side ≡ Tester → (testerTurn (t .reply) (inForce t) gap ≡ stray) ↔ Stray t (t .reply) gap b
   unfolding testerTurn
   tester-stray s = (
     λ e. absurd (never-four (isFirst (t .reply) || _) e),
@@ -120,7 +120,7 @@ module _ (t : Talk) (gap : Micros) (b : Event) where
     ⊎-elim (λ n. rw n) (λ p. rw (p, or-true (isNever (t .reply)))),
   )
 
-  unit-stray : b .side ≡ Unit → (unitTurn (t .reply) (inForce t) gap ≡ stray) ↔ Stray t gap b
+  unit-stray : b .side ≡ Unit → (unitTurn (t .reply) (inForce t) gap ≡ stray) ↔ Stray t (t .reply) gap b
   unfolding unitTurn
   unit-stray s = (
     λ e. (s, stray-is .0 (chosen (isStray (t .reply) (inForce t) gap) stray _ (not-four (isHasty (inForce t) gap)) e)),
@@ -131,7 +131,7 @@ module _ (t : Talk) (gap : Micros) (b : Event) where
       not-four true e = omega arith
       not-four false e = omega arith
 
-  unit-early : b .side ≡ Unit → (unitTurn (t .reply) (inForce t) gap ≡ early) ↔ Early t gap b
+  unit-early : b .side ≡ Unit → (unitTurn (t .reply) (inForce t) gap ≡ early) ↔ Early t (t .reply) gap b
   unfolding unitTurn isHasty
   unit-early s = (
     λ e.
@@ -146,19 +146,19 @@ module _ (t : Talk) (gap : Micros) (b : Event) where
         (λ x. by-stray (isStray (t .reply) (inForce t) gap) refl (x .1) (lt-ltb (gap .0) (inForce t .p2min .0) (x .2))),
   )
     where
-      by-stray : (c : Bool) → isStray (t .reply) (inForce t) gap ≡ c → (Stray t gap b → ⊥) → isHasty (inForce t) gap ≡ true
+      by-stray : (c : Bool) → isStray (t .reply) (inForce t) gap ≡ c → (Stray t (t .reply) gap b → ⊥) → isHasty (inForce t) gap ≡ true
           → (if c then stray else if isHasty (inForce t) gap then early else noReason) ≡ early
       by-stray true c n h = absurd (n (s, stray-is .0 c))
       by-stray false c n h = rw h
 
   -- ---- from either
-  turn-early-by : (side : Side) → b .side ≡ side → isNobody side ≡ false → (turnReason (t .reply) (inForce t) side gap ≡ early) ↔ Early t gap b
+  turn-early-by : (side : Side) → b .side ≡ side → isNobody side ≡ false → (turnReason (t .reply) (inForce t) side gap ≡ early) ↔ Early t (t .reply) gap b
   unfolding turnReason isTester isNobody
   turn-early-by Tester s n = tester-early s
   turn-early-by Unit s n = unit-early s
   turn-early-by Nobody s n = absurd (false≢true (sym n))
 
-  turn-stray-by : (side : Side) → b .side ≡ side → isNobody side ≡ false → (turnReason (t .reply) (inForce t) side gap ≡ stray) ↔ Stray t gap b
+  turn-stray-by : (side : Side) → b .side ≡ side → isNobody side ≡ false → (turnReason (t .reply) (inForce t) side gap ≡ stray) ↔ Stray t (t .reply) gap b
   unfolding turnReason isTester isNobody
   turn-stray-by Tester s n = tester-stray s
   turn-stray-by Unit s n = unit-stray s
@@ -202,14 +202,14 @@ module _ (t : Talk) (gap : Micros) (b : Event) (sided : isNobody (b .side) ≡ f
   reason-by k true c n h = (λ e. absurd (h e), λ e. absurd (n (sym (eqb-true _ noReason c) ∙ e)))
   reason-by k false c n h = (λ e. e, λ e. e)
 
-  pub first-early : (firstReason kb1 (t .reply) (inForce t) (b .side) (b .value) gap ≡ early) ↔ Early t gap b
+  pub first-early : (firstReason kb1 (t .reply) (inForce t) (b .side) (b .value) gap ≡ early) ↔ Early t (t .reply) gap b
   unfolding firstReason
   first-early =
       let x = reason-by early _ refl (λ z. omega arith) (head-elsewhere kb1 (b .value) .0) in
       let y = turn-early-by t gap b (b .side) refl sided in
       (λ e. y .0 (x .0 e), λ e. x .1 (y .1 e))
 
-  pub first-stray : (firstReason kb1 (t .reply) (inForce t) (b .side) (b .value) gap ≡ stray) ↔ Stray t gap b
+  pub first-stray : (firstReason kb1 (t .reply) (inForce t) (b .side) (b .value) gap ≡ stray) ↔ Stray t (t .reply) gap b
   unfolding firstReason
   first-stray =
       let x = reason-by stray _ refl (λ z. omega arith) (head-elsewhere kb1 (b .value) .1) in
@@ -232,7 +232,7 @@ turn-else reply w side gap f g = by-tests (isTester side) (isFirst reply || isEa
     by-tests false b false true f g = absurd (f refl)
     by-tests false b false false f g = refl
 
-pub first-none : (t : Talk) (gap : Micros) (b : Event) → isNobody (b .side) ≡ false → (kb1 : ℕ) → (Early t gap b → ⊥) → (Stray t gap b → ⊥)
+pub first-none : (t : Talk) (gap : Micros) (b : Event) → isNobody (b .side) ≡ false → (kb1 : ℕ) → (Early t (t .reply) gap b → ⊥) → (Stray t (t .reply) gap b → ⊥)
     → headReason kb1 (b .value) ≡ noReason
     → firstReason kb1 (t .reply) (inForce t) (b .side) (b .value) gap ≡ noReason
 unfolding firstReason

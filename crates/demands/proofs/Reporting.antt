@@ -16,8 +16,8 @@ use Rattle.demands.specs.Endings.{AnswersStop}
 use Rattle.demands.specs.Logs.{Log, _▷_, heardIn, InBytes}
 use Rattle.demands.specs.Histories.{after, reportsTo, Among, Tells}
 use Rattle.demands.specs.Accounts.{namedBy}
-use Rattle.demands.specs.Sessions.{Talk, Session, Reads, Turns, SomeSession}
-use Rattle.demands.specs.Messages.{EndsInFrame}
+use Rattle.demands.specs.Sessions.{Talk, Session, Reads, SomeSession}
+use Rattle.demands.proofs.Behind.{Finishes, Turned}
 use Rattle.demands.proofs.Saying.{Each}
 use Rattle.demands.proofs.Going.{Told}
 use Rattle.demands.proofs.Closing.{Ends, still-up, over}
@@ -36,7 +36,7 @@ unfolding InBytes
 told-in es e t b s = each-told es e (reportsTo stepOf es e) t (reportsTo stepOf es e) _ (event-ends es e t b (session-at (b .0) s))
 
 -- a report 1 or 2 comes in a session
-comes-in : (es : Log) (e : Event) (r : Report) → InBytes (es ▷ e) → Among r (reportsTo stepOf es e)
+pub comes-in : (es : Log) (e : Event) (r : Report) → InBytes (es ▷ e) → Among r (reportsTo stepOf es e)
     → (r .number ≡ frameReport) ⊎ (r .number ≡ damageReport) → SomeSession stepOf es
 unfolding InBytes
 comes-in es e r b i n = by-state (isConnected (after stepOf es .link .phase .state)) refl
@@ -52,17 +52,17 @@ frames-read es e r b i n =
     let x = comes-in es e r b i (inl n) in
     record { talk = x .talk; session = x .session; reads = told-in es e (x .talk) b (x .session) r i .reads n }
 
--- and it ends a message of the history (its converse is in `Speaking`)
+-- and it ends a message, by the session behind its first byte (its converse is in `Speaking`)
 pub frames-end : (es : Log) (e : Event) (r : Report) → InBytes (es ▷ e) → Among r (reportsTo stepOf es e) → r .number ≡ frameReport
-    → EndsInFrame stepOf es e (namedBy (heardIn (es ▷ e)) r)
+    → Finishes es e (namedBy (heardIn (es ▷ e)) r)
 frames-end es e r b i n =
     let x = comes-in es e r b i (inl n) in
     told-in es e (x .talk) b (x .session) r i .spoken n
 
--- A MESSAGE'S FIRST BYTE WAS EARLY OR STRAY exactly if its report says so
-pub turns-exactly : (es : Log) (e : Event) (r : Report) → InBytes (es ▷ e) → Among r (reportsTo stepOf es e)
-    → (r .number ≡ frameReport) ⊎ (r .number ≡ damageReport) → Turns stepOf (es ▷ e) r
-turns-exactly es e r b i n =
+-- a message's first byte was early or stray exactly if its report says so, by the session behind it (`turns-exactly` in `Opening`)
+pub turns-behind : (es : Log) (e : Event) (r : Report) → InBytes (es ▷ e) → Among r (reportsTo stepOf es e)
+    → (r .number ≡ frameReport) ⊎ (r .number ≡ damageReport) → Turned (es ▷ e) r
+turns-behind es e r b i n =
     let x = comes-in es e r b i n in
     told-in es e (x .talk) b (x .session) r i .turns n
 

@@ -1,5 +1,5 @@
 -- A message of the history and the link's: while it goes on, the link holds it, or no byte more can make it a frame (`stands`). So a byte with which
--- `read` takes its bytes is reported as a frame, and no other byte is (`frames-exactly`).
+-- `read` takes its bytes is reported as a frame, and no other byte is (`frames-behind`).
 -- Assumes nothing.
 use Prim.Native.Nat.{ℕ, _+_, _-_, _≤_}
 use mathlib.Core.Bool.{Bool, true, false, not, false≢true}
@@ -47,13 +47,13 @@ use Rattle.demands.specs.Logs.{Log, none, _▷_, heardIn, numberAfter, t
 use Rattle.demands.specs.Histories.{after, reportsTo, isAmong, Among, first}
 use Rattle.demands.specs.Accounts.{namedBy}
 use Rattle.demands.specs.Sessions.{Talk, talkAfter, Session, lasts, inForce, gapBefore}
-use Rattle.demands.specs.Messages.{OpensMessage, InTime, Speaks, begins, refused, waits, grows, EndsInFrame, ReportsFrame}
+use Rattle.demands.specs.Messages.{InTime, ReportsFrame}
+use Rattle.demands.proofs.Behind.{Starts, Speaking, begins, refused, waits, grows, Finishes}
 use Rattle.demands.proofs.Basics.{basics, answer-taken, answer-refused}
 use Rattle.demands.proofs.Carrying.{gone-ends, ends-now}
 use Rattle.demands.proofs.Tiling.{sum-is}
 use Rattle.demands.proofs.Completing.{acted-byte, acted-tick}
 use Rattle.demands.proofs.Listening.{Bytes, bytes-both, bytes-one, byte-more, byte-longer, other-more, refused-more, begins-longer}
-use Rattle.demands.proofs.Listening.{alone-named}
 use Rattle.demands.proofs.Recent.{in-time, open-stays}
 use Rattle.demands.proofs.Saying.{among-left, among-right}
 use Rattle.demands.proofs.Reasons.{has-side, first-none}
@@ -63,14 +63,14 @@ use Rattle.demands.proofs.Course.{AtLink, session-at}
 use Rattle.demands.proofs.Reporting.{frames-end}
 
 -- ---- a message's bytes, and its session's key bytes
-speaks-good : {t : Talk} {b : Event} {log : Log} {bytes : List ℕ} → InBytes log → Speaks stepOf t b log bytes → goodPair (t .kb1) (t .kb2) ≡ true
+speaks-good : {t : Talk} {b : Event} {log : Log} {bytes : List ℕ} → InBytes log → Speaking t b log bytes → goodPair (t .kb1) (t .kb2) ≡ true
 unfolding InBytes
-speaks-good i (begins o) = session-at i (o .session) .fits .good
+speaks-good i (begins o) = session-at i (o .first .session) .fits .good
 speaks-good i (refused s n) = speaks-good (i .0) s
 speaks-good i (waits s n k m) = speaks-good (i .0) s
 speaks-good i (grows s r n k d m) = speaks-good (i .0) s
 
-speaks-bytes : {t : Talk} {b : Event} {log : Log} {bytes : List ℕ} → InBytes log → Speaks stepOf t b log bytes → Bytes bytes
+speaks-bytes : {t : Talk} {b : Event} {log : Log} {bytes : List ℕ} → InBytes log → Speaking t b log bytes → Bytes bytes
 unfolding InBytes
 speaks-bytes {b = b} i (begins o) = bytes-one (b .value) (i .1)
 speaks-bytes i (refused s n) = speaks-bytes (i .0) s
@@ -334,15 +334,15 @@ last-one : {log before : Log} {c b : Event} → Begins (log ▷ c) (before ▷ b
 last-one whole n k q = (refl, refl)
 last-one {log = log} {c = c} (more m) n k q = absurd (let x = begins-longer m in let y = byte-longer log c n k in omega arith)
 
-module _ (t : Talk) (before : Log) (b : Event) (i : InBytes (before ▷ b)) (o : OpensMessage stepOf t before b) where
+module _ (t : Talk) (before : Log) (b : Event) (i : InBytes (before ▷ b)) (o : Starts t before b) where
   abbrev behind : Link
   behind = after stepOf (before ▷ b) .link
 
   at-first : AtLink (before ▷ b) t
-  at-first = session-at i (o .session)
+  at-first = session-at i (o .first .session)
 
   named-first : behind .named ≡ length (heardIn before)
-  named-first = alone-named before b (o .alone)
+  named-first = o .first .alone
 
   -- it is open
   open-first : isOpen (behind .phase .state) ≡ true
@@ -352,7 +352,7 @@ module _ (t : Talk) (before : Log) (b : Event) (i : InBytes (before ▷ b)) (o :
       by-state true c = refl
       by-state false c =
           let x = at-first .calm (open-or-quiet (behind .phase .state) (at-first .fits .connected) c) in
-          let y = byte-longer before b (o .number) (o .kind) in
+          let y = byte-longer before b (o .first .number) (o .first .kind) in
           let z = at-first .bytes in
           absurd (omega (arith, named-first))
 
@@ -360,15 +360,15 @@ module _ (t : Talk) (before : Log) (b : Event) (i : InBytes (before ▷ b)) (o :
   first-opened = at-first .opened open-first
 
   first-is : (first-opened .before ≡ before) × (first-opened .byte ≡ b)
-  first-is = last-one (first-opened .begins) (first-opened .number) (first-opened .kind) (first-opened .index ∙ named-first)
+  first-is = last-one (first-opened .begins) (first-opened .first .number) (first-opened .first .kind) (first-opened .index ∙ named-first)
 
   -- with a right head it is held
   held-first : headReason (t .kb1) (b .value) ≡ noReason → isHeld (behind .phase .state) ≡ true
   held-first h =
-      let none = first-none t (gapBefore (takenOf before) b) b (has-side (takenOf before) b (o .number) (o .kind)) (t .kb1) (o .timely)
+      let none = first-none t (gapBefore (takenOf before) b) b (has-side (takenOf before) b (o .first .number) (o .first .kind)) (t .kb1) (o .timely)
       (o .expected) h in
       let p = first-is in
-      first-opened .fresh (byte-longer before b (o .number) (o .kind) ∙ ap (λ (x : ℕ). x + 1) (sym named-first))
+      first-opened .fresh (byte-longer before b (o .first .number) (o .first .kind) ∙ ap (λ (x : ℕ). x + 1) (sym named-first))
       ((λ j. firstReason (t .kb1) (t .reply) (inForce t) (p .1 j .side) (p .1 j .value) (gapBefore (takenOf (p .0 j)) (p .1 j))) ∙ none)
 
   first-stands : Stands t b (before ▷ b) (b .value ∷ [])
@@ -378,9 +378,9 @@ module _ (t : Talk) (before : Log) (b : Event) (i : InBytes (before ▷ b)) (o :
       by-head true c =
           let h = held-first (eqb-true (headReason (t .kb1) (b .value)) noReason c) in
           open-still (record {
-            session = o .session;
+            session = o .first .session;
             held = h;
-            heard = ap (drop (behind .named)) (byte-more before b (o .number) (o .kind)) ∙ drop-at (heardIn before) (b .value ∷ []) (behind .named)
+            heard = ap (drop (behind .named)) (byte-more before b (o .first .number) (o .first .kind)) ∙ drop-at (heardIn before) (b .value ∷ []) (behind .named)
                 (sym named-first);
             whose = first-opened .held h .whose ∙ ap (λ (x : Event). x .side) (first-is .1);
           })
@@ -414,7 +414,7 @@ grow-stands t b log e bytes i f g r n k d m (hopeless h) =
     hopeless (λ ws. ap (isMessage (t .kb1) (b .side)) (append-assoc bytes (e .value ∷ []) ws) ∙ h ((e .value ∷ []) ++ ws))
 grow-stands t b log e bytes i f g r n k d m (done q) = absurd (r q)
 
-stands : {t : Talk} {b : Event} {log : Log} {bytes : List ℕ} → InBytes log → Speaks stepOf t b log bytes → Stands t b log bytes
+stands : {t : Talk} {b : Event} {log : Log} {bytes : List ℕ} → InBytes log → Speaking t b log bytes → Stands t b log bytes
 unfolding InBytes isByte
 stands {t = t} {b = b} i (begins {before = before} o) = first-stands t before b i o
 stands {t = t} {b = b} i (refused {log = log} {bytes = bytes} {e = e} s n) =
@@ -435,10 +435,10 @@ alone-never t b g f r =
 tick-byte : (k : Kind) → k ≡ Tick → k ≡ Byte → ⊥
 tick-byte k t b = let z : _≡_ {A = ℕ} 0 1 = cc in omega arith
 
-last-reports : (es : Log) (e : Event) (t : Talk) (b : Event) (bytes : List ℕ) → InBytes (es ▷ e) → Speaks stepOf t b (es ▷ e) bytes → e .kind ≡ Byte
+last-reports : (es : Log) (e : Event) (t : Talk) (b : Event) (bytes : List ℕ) → InBytes (es ▷ e) → Speaking t b (es ▷ e) bytes → e .kind ≡ Byte
     → numberAfter (takenOf es) e ≡ taken → readOf (t .kb1) (t .kb2) bytes .no ≡ taken → ReportsFrame (heardIn (es ▷ e)) (reportsTo stepOf es e) bytes
 unfolding InBytes
-last-reports es e t b bytes i (begins o) k n r = absurd (alone-never t e (session-at i (o .session) .fits .good) (bytes-one (e .value) (i .1)) r)
+last-reports es e t b bytes i (begins o) k n r = absurd (alone-never t e (session-at i (o .first .session) .fits .good) (bytes-one (e .value) (i .1)) r)
 last-reports es e t b bytes i (refused s m) k n r = absurd (m n)
 last-reports es e t b bytes i (waits s m j d) k n r = absurd (tick-byte (e .kind) j k)
 last-reports es e t b bytes i (grows {bytes = front} s q m j d near) k n r = by-stand (stands (i .0) s)
@@ -456,10 +456,11 @@ last-reports es e t b bytes i (grows {bytes = front} s q m j d near) k n r = by-
         ∙ eq-eqb _ taken r))
     by-stand (done x) = absurd (q x)
 
--- A BYTE IS REPORTED AS A FRAME exactly if it ends a message of the session in bytes that `read` takes, and the report names these
-pub frames-exactly : (es : Log) (e : Event) (bytes : List ℕ) → InBytes (es ▷ e)
-    → ReportsFrame (heardIn (es ▷ e)) (reportsTo stepOf es e) bytes ↔ EndsInFrame stepOf es e bytes
-frames-exactly es e bytes i = (
-  λ x. subst (EndsInFrame stepOf es e) (x .names) (frames-end es e (x .report) i (x .made) (x .number)),
+-- A BYTE IS REPORTED AS A FRAME exactly if it ends a message in bytes that `read` takes, and the report names these; by the session behind the message's
+-- first byte (`frames-exactly` in `Opening`)
+pub frames-behind : (es : Log) (e : Event) (bytes : List ℕ) → InBytes (es ▷ e)
+    → ReportsFrame (heardIn (es ▷ e)) (reportsTo stepOf es e) bytes ↔ Finishes es e bytes
+frames-behind es e bytes i = (
+  λ x. subst (Finishes es e) (x .names) (frames-end es e (x .report) i (x .made) (x .number)),
   λ x. last-reports es e (x .talk) (x .first) bytes i (x .message) (x .kind) (x .number) (x .read),
 )

@@ -1,5 +1,5 @@
--- What ends an initialization, a wait for a reply and a session, and which bytes are outside, told by the history (document 01, "Events and what the
--- link does"). That the link's reports are exactly these is stated in proofs/DemandTwo.antt.
+-- What ends an initialization and a session, told by the history (document 01, "Events and what the link does"). That the link's reports are exactly
+-- these is stated in proofs/DemandTwo.antt.
 -- Assumes nothing.
 use Prim.Native.Nat.{ℕ, _+_, _≤_, _<_}
 use mathlib.Core.Bool.{true}
@@ -8,21 +8,18 @@ use mathlib.Core.Path.{_≡_}
 use mathlib.Core.Logic.{_↔_, _⊎_}
 use Rattle.base.specs.Numbers.{taken}
 use Rattle.base.specs.Reports.{frameReport, connectedReport, failedReport, downReport, idleOver, dropped, restarted}
-use Rattle.units.specs.declared.Micros.{Micros}
-use Rattle.timing.specs.Timing.{isPassed}
 use Rattle.events.specs.declared.Kind.the-variants.{Address, WakeUp, Drop}
 use Rattle.frame.specs.Read.{dataOf}
 use Rattle.events.specs.declared.Side.{Side}
 use Rattle.events.specs.declared.Side.the-variants.{Unit}
 use Rattle.events.specs.declared.Event.{Event}
-use Rattle.talk.specs.declared.Reply.the-variants.{First}
 use Rattle.reports.specs.declared.Report.{Report}
 use Rattle.demands.specs.Logs.{Log, _▷_, markOf, numberAfter, takenOf, heardIn}
 use Rattle.demands.specs.Refusals.{Not}
 use Rattle.demands.specs.Histories.{Step, reportsTo, Says, Among, Tells}
 use Rattle.demands.specs.Starts.{Low}
 use Rattle.demands.specs.Accounts.{namedBy, heldIn}
-use Rattle.demands.specs.Sessions.{Frames, stops, pendingIn, Talk, inForce, gapBefore}
+use Rattle.demands.specs.Sessions.{Frames, stops, pendingIn, Talk, gapBefore, IdleOver}
 
 -- A or W
 abbrev pub Starter : Event → Type 0
@@ -35,17 +32,6 @@ NotIdle log e = Starter e × (e .start .0 < markOf log .0 + 300_000)
 -- "Low for 24 to 26 ms, else report 4 reason 3 at once."; the 300 ms are "judged before the length of the low"
 abbrev pub WrongLow : Log → Event → Type 0
 WrongLow log e = (e .kind ≡ WakeUp) × (markOf log .0 + 300_000 ≤ e .start .0) × Not (Low e)
-
--- ---- in a session, with so many bytes held and so long a gap from the mark to the event's start
--- "First reply awaited and P2 max passed: report 6". Nothing is held then: what is held ends before P2 max passes, and "After either, no reply is
--- expected."
-abbrev pub NoReply : Talk → ℕ → Micros → Type 0
-NoReply t held gap = (t .reply ≡ First) × (held ≡ 0) × (isPassed (inForce t .p2max) gap ≡ true)
-
--- "Then, connected, no first reply awaited, P3 max passed: report 7 reason 2, down." Where one was awaited, P2 max has passed too, or what was held has
--- ended.
-abbrev pub IdleOver : Talk → ℕ → Micros → Type 0
-IdleOver t held gap = (isPassed (inForce t .p3max) gap ≡ true) × (t .reply ≡ First → held ≡ 0 → isPassed (inForce t .p2max) gap ≡ true)
 
 -- ---- AN INITIALIZATION of the history: from an address or wake-up on that was idle long enough and low long enough, as long as no report 3 or 4 is made.
 pub data Starting (step : Step) : Log → Type 0 where

@@ -11,21 +11,17 @@ use Rattle.frame.specs.Read.{readOf}
 use Rattle.events.specs.declared.Kind.the-variants.{Byte, Tick}
 use Rattle.events.specs.declared.Event.{Event}
 use Rattle.reports.specs.declared.Report.{Report}
-use Rattle.demands.specs.Logs.{Log, _▷_, markOf, heardIn, numberAfter, takenOf}
+use Rattle.demands.specs.Logs.{Log, _▷_, markOf, numberAfter, takenOf}
 use Rattle.demands.specs.Refusals.{Not}
-use Rattle.demands.specs.Histories.{Step, reportsOf, Among}
-use Rattle.demands.specs.Accounts.{namedBy, allNamed}
-use Rattle.demands.specs.Sessions.{Talk, Session, gapBefore, Early, Stray}
+use Rattle.demands.specs.Histories.{Step, Among}
+use Rattle.demands.specs.Accounts.{namedBy}
+use Rattle.demands.specs.Sessions.{Talk, OpensIn, EarlyAt, StrayAt}
 
--- "First byte of a message": a byte of the session t. The bytes that reports name, up to and with those of its own event, are all that were heard
--- before it. It is neither early nor stray.
+-- "First byte of a message": a byte that opens one in the session t of the events before it, and is neither early nor stray
 pub record OpensMessage (step : Step) (t : Talk) (before : Log) (b : Event) : Type 0 where
-  pub session : Session step (before ▷ b) t
-  pub kind : b .kind ≡ Byte
-  pub number : numberAfter (takenOf before) b ≡ taken
-  pub alone : allNamed (heardIn (before ▷ b)) (reportsOf step (before ▷ b)) ≡ heardIn before
-  pub timely : Not (Early t (gapBefore (takenOf before) b) b)
-  pub expected : Not (Stray t (gapBefore (takenOf before) b) b)
+  pub opens : OpensIn step before b t
+  pub timely : Not (EarlyAt step before b t)
+  pub expected : Not (StrayAt step before b t)
 
 -- "20 ms passed since the mark" is not so at the event's start; "'Passed' is strict"
 abbrev pub InTime : Log → Event → Type 0

@@ -1,4 +1,5 @@
--- A connected link's session, told by the history: its key bytes, the frames reported in it, the windows in force and the reply that may come.
+-- A connected link's session, told by the history: its key bytes, the frames reported in it, the windows in force and the reply that may come; what time
+-- ends in it; and the first byte of a message, told by the events before it.
 -- (document 01, "Connected." and "By their data")
 -- Assumes nothing.
 use Prim.Native.Nat.{ℕ, _<_}
@@ -6,7 +7,7 @@ use mathlib.Core.Bool.{Bool, true, false, _&&_, _||_}
 use mathlib.Core.List.{List, [], _∷_}
 use mathlib.Core.Path.{_≡_}
 use mathlib.Core.Logic.{_↔_, _⊎_}
-use lib.Dec.{eqb}
+use lib.Dec.{eqb, ltb}
 use lib.ListN.{length, getD}
 use Rattle.base.specs.Choice.{if_then_else_}
 use Rattle.base.specs.Numbers.{taken}
@@ -23,7 +24,7 @@ use Rattle.events.specs.declared.Side.{Side}
 use Rattle.events.specs.declared.Side.the-variants.{Tester, Unit}
 use Rattle.events.specs.declared.Kind.the-variants.{Byte}
 use Rattle.events.specs.declared.Event.{Event}
-use Rattle.talk.specs.Talk.{ifAllowed}
+use Rattle.talk.specs.Talk.{isFirst, ifAllowed}
 use Rattle.talk.specs.declared.Reply.{Reply}
 use Rattle.talk.specs.declared.Reply.the-variants.{Never, First, Further}
 use Rattle.phases.specs.Phases.{isConnected}
@@ -33,7 +34,7 @@ use Rattle.demands.specs.Logs.{Log, _▷_, markOf, heardIn, numberAfter,
 use Rattle.demands.specs.Refusals.{Not}
 use Rattle.demands.specs.Histories.{Step, reportsTo, Says}
 use Rattle.demands.specs.Connecting.{Connects}
-use Rattle.demands.specs.Accounts.{namedBy}
+use Rattle.demands.specs.Accounts.{namedBy, heldIn}
 
 -- ---- the frames of a session, oldest first: whose each is, and its bytes
 pub record Frame : Type 0 where
@@ -144,33 +145,71 @@ pub record Reads (step : Step) (es : Log) (e : Event) (r : Report) : Type 0 wher
   pub session : Session step es talk
   pub reads : readOf (talk .kb1) (talk .kb2) (namedBy (heardIn (es ▷ e)) r) .no ≡ taken
 
--- ---- the first byte of a message: its gap, and whether it breaks the windows in force
+-- ---- in a session, with so many bytes held and so long a gap from the mark to the event's start
 abbrev pub gapBefore : Log → Event → Micros
 gapBefore log b = gapOf (markOf log) (b .start)
 
+-- "First reply awaited and P2 max passed: report 6". Nothing is held then: what is held ends before P2 max passes, and "After either, no reply is
+-- expected."
+abbrev pub NoReply : Talk → ℕ → Micros → Type 0
+NoReply t held gap = (t .reply ≡ First) × (held ≡ 0) × (isPassed (inForce t .p2max) gap ≡ true)
+
+-- "Then, connected, no first reply awaited, P3 max passed: report 7 reason 2, down." Where one was awaited, P2 max has passed too, or what was held has
+-- ended.
+abbrev pub IdleOver : Talk → ℕ → Micros → Type 0
+IdleOver t held gap = (isPassed (inForce t .p3max) gap ≡ true) × (t .reply ≡ First → held ≡ 0 → isPassed (inForce t .p2max) gap ≡ true)
+
+-- ---- the first byte of a message: all of it is said by the events before the byte and their reports, whatever is reported of the byte itself
+-- A BYTE OPENS A MESSAGE, or damage ("First byte of a message"), in the session t of the events before it: it is taken, nothing was held before it or
+-- what was held has ended ("20 ms passed since the mark"), and the session has not.
+pub record OpensIn (step : Step) (before : Log) (b : Event) (t : Talk) : Type 0 where
+  pub session : Session step before t
+  pub kind : b .kind ≡ Byte
+  pub number : numberAfter (takenOf before) b ≡ taken
+  pub alone : (heldIn step before ≡ 0) ⊎ (20_000 < gapBefore (takenOf before) b .0)
+  pub lasts : Not (IdleOver t (heldIn step before) (gapBefore (takenOf before) b))
+
+-- Time passes first. What was held for more than 20 ms has ended, and "After either, no reply is expected"; where nothing was held, a first reply that
+-- is awaited as P2 max passes is not awaited any more ("no reply is expected"). The reply that may come behind that, in the session t with so many
+-- bytes held:
+unfoldable pub replyAt : Talk → ℕ → Micros → Reply
+replyAt t held gap =
+    if ltb 0 held then Never else
+    if isFirst (t .reply) && isPassed (inForce t .p2max) gap then Never else t .reply
+
+-- whether it breaks the windows in force, with this reply that may come
 -- "From the unit, stray (4) unless a first or further reply may come and the gap is at most P2 max"
-abbrev pub Stray : Talk → Micros → Event → Type 0
-Stray t gap b = (b .side ≡ Unit) × ((t .reply ≡ Never) ⊎ (isPassed (inForce t .p2max) gap ≡ true))
+abbrev pub Stray : Talk → Reply → Micros → Event → Type 0
+Stray t reply gap b = (b .side ≡ Unit) × ((reply ≡ Never) ⊎ (isPassed (inForce t .p2max) gap ≡ true))
 
 -- "from the tester, early (reason 3) while a first reply is awaited or the gap is under P3 min"; from the unit "then early (3) under P2 min"
-abbrev pub Early : Talk → Micros → Event → Type 0
-Early t gap b =
-    ((b .side ≡ Tester) × ((t .reply ≡ First) ⊎ (gap .0 < inForce t .p3min .0)))
-    ⊎ ((b .side ≡ Unit) × Not (Stray t gap b) × (gap .0 < inForce t .p2min .0))
+abbrev pub Early : Talk → Reply → Micros → Event → Type 0
+Early t reply gap b =
+    ((b .side ≡ Tester) × ((reply ≡ First) ⊎ (gap .0 < inForce t .p3min .0)))
+    ⊎ ((b .side ≡ Unit) × Not (Stray t reply gap b) × (gap .0 < inForce t .p2min .0))
 
--- the first of the bytes that a report names, in the history: the events before it, and the session that it came in
+-- a byte behind these events, in their session t, is stray, or early
+abbrev pub StrayAt : Step → Log → Event → Talk → Type 0
+StrayAt step before b t =
+    let gap = gapBefore (takenOf before) b in
+    Stray t (replyAt t (heldIn step before) gap) gap b
+
+abbrev pub EarlyAt : Step → Log → Event → Talk → Type 0
+EarlyAt step before b t =
+    let gap = gapBefore (takenOf before) b in
+    Early t (replyAt t (heldIn step before) gap) gap b
+
+-- the first of the bytes that a report names, in the history: the events before it, and their session
 pub record FirstByte (step : Step) (es : Log) (r : Report) : Type 0 where
   pub before : Log
   pub byte : Event
   pub talk : Talk
   pub begins : Begins (before ▷ byte) es
-  pub kind : byte .kind ≡ Byte
-  pub number : numberAfter (takenOf before) byte ≡ taken
+  pub opens : OpensIn step before byte talk
   pub index : length (heardIn before) ≡ r .first
-  pub session : Session step (before ▷ byte) talk
 
 -- and whether it was early or stray is the report's reason 3 or 4, and nothing else is
 pub record Turns (step : Step) (es : Log) (r : Report) : Type 0 where
   pub first : FirstByte step es r
-  pub early : ((r .number ≡ damageReport) × (r .reason ≡ early)) ↔ Early (first .talk) (gapBefore (takenOf (first .before)) (first .byte)) (first .byte)
-  pub stray : ((r .number ≡ damageReport) × (r .reason ≡ stray)) ↔ Stray (first .talk) (gapBefore (takenOf (first .before)) (first .byte)) (first .byte)
+  pub early : ((r .number ≡ damageReport) × (r .reason ≡ early)) ↔ EarlyAt step (first .before) (first .byte) (first .talk)
+  pub stray : ((r .number ≡ damageReport) × (r .reason ≡ stray)) ↔ StrayAt step (first .before) (first .byte) (first .talk)
