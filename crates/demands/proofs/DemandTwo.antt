@@ -37,15 +37,10 @@ use Rattle.demands.specs.Logs.{Log, _▷_, InBytes, numberAfter, takenOf
 use Rattle.demands.specs.Histories.{ourStep, after, answerTo, reportsTo, reportsOf, Says, Among, Tells}
 use Rattle.demands.specs.Accounts.{heldIn}
 use Rattle.demands.specs.Connecting.{Connects, Connected}
-<<<<<<< HEAD
-use Rattle.demands.specs.Sessions.{Talk, Session, SomeSession, IsIn, Reads, Turns, gapBefore}
+use Rattle.demands.specs.Sessions.{Talk, Session, SomeSession, IsIn, Reads, OpensIn, Turns, gapBefore, NoReply}
 use Rattle.demands.specs.Each.{Formed}
 use Rattle.demands.specs.Failing.{UnderWay, Fails}
-use Rattle.demands.specs.Endings.{Starter, NotIdle, WrongLow, NoReply, Starting, AnswersStop, Downs}
-=======
-use Rattle.demands.specs.Sessions.{Talk, Session, SomeSession, IsIn, Reads, OpensIn, Turns, gapBefore, NoReply}
 use Rattle.demands.specs.Endings.{Starter, NotIdle, WrongLow, Starting, AnswersStop, Downs}
->>>>>>> bc72842e24d461b84a10454e269d86d7bdb5ce13
 use Rattle.demands.specs.Messages.{EndsInFrame, ReportsFrame}
 use Rattle.demands.proofs.Leaving as leaving
 use Rattle.demands.proofs.Each as each
