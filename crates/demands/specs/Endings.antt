@@ -55,8 +55,8 @@ pub record Answers (kb1 kb2 : ℕ) (fs : Frames) (side : Side) (heard : List ℕ
 abbrev pub AnswersStop : Step → Talk → Log → Event → Type 0
 AnswersStop step t es e = Answers (t .kb1) (t .kb2) (t .frames) (e .side) (heardIn (es ▷ e)) (reportsTo step es e)
 
--- report 7 and its reasons, in the session t: 2 "no first reply awaited, P3 max passed"; "if connected, report 7 (reason 4 for A or W, 3 for D)"; 1, a
--- stop that the unit answers
+-- report 7 and its reasons, in the session t: 2 "no first reply awaited, P3 max passed"; "if connected, report 7 (reason 4 for A or W, 3 for D)". (Reason
+-- 1 is for a stop that the unit answers: `stops-exactly`.)
 pub record Downs (step : Step) (es : Log) (e : Event) (t : Talk) : Type 0 where
   pub idle : Tells downReport idleOver (reportsTo step es e)
       ↔ ((numberAfter (takenOf es) e ≡ taken) × IdleOver t (heldIn step es) (gapBefore (takenOf es) e))
