@@ -1,13 +1,13 @@
 pub mod Logs
 pub mod Refusals
+pub mod Frames
 pub mod Wrong
 pub mod Histories
 pub mod Starts
 pub mod Connecting
+pub mod Accounts
 pub mod Sessions
 pub mod Messages
-pub mod Accounts
 pub mod Endings
-pub mod Each
 pub mod Failing
-pub mod Frames
+pub mod Each
