@@ -10,4 +10,5 @@ pub mod Accounts
 pub mod Endings
 pub mod Each
 pub mod Failing
+pub mod Damage
 pub mod Frames
