@@ -139,12 +139,14 @@ unfolding closing
 closing-open p o = rw o refl
 
 -- ---- AN EVENT THAT IS TAKEN
--- a report 2 of it: something is open and has ended, or the event closes it; all that is held is named
-record Loses (l : Link) (e : Event) (x : Report) : Type 0 where
-  open-there : isOpen (l .phase .state) ≡ true
-  why : (isSilent (gapOf (l .mark) (e .start)) ≡ true) ⊎ Closer e
-  index : x .first ≡ l .named
-  size : x .bytes ≡ l .heard - l .named
+-- a report 2 of it: something is open and has ended, or the event closes it; all that is held is named; the reason is that of damage,
+-- or of a message held
+pub record Loses (l : Link) (e : Event) (x : Report) : Type 0 where
+  pub open-there : isOpen (l .phase .state) ≡ true
+  pub why : (isSilent (gapOf (l .mark) (e .start)) ≡ true) ⊎ Closer e
+  pub index : x .first ≡ l .named
+  pub size : x .bytes ≡ l .heard - l .named
+  pub reason : x .reason ≡ lossReason (l .phase) (if isSilent (gapOf (l .mark) (e .start)) then brokenOff else closed)
 
 module _ (l : Link) (e : Event) (g : Long (l .phase)) where
   abbrev r : Run
@@ -153,9 +155,20 @@ module _ (l : Link) (e : Event) (g : Long (l .phase)) where
   abbrev s : Run
   s = leftBy l e
 
-  loses : (k : ℕ) → isOpen (l .phase .state) ≡ true → (isSilent (gapOf (l .mark) (e .start)) ≡ true) ⊎ Closer e → Loses l e (reportOf r damageReport k)
+  -- the reason of a message held, by whether it has ended
+  abbrev held-why : ℕ
+  held-why = if isSilent (gapOf (l .mark) (e .start)) then brokenOff else closed
+
+  loses : (k : ℕ) → isOpen (l .phase .state) ≡ true → (isSilent (gapOf (l .mark) (e .start)) ≡ true) ⊎ Closer e → held-why ≡ k
+      → Loses l e (reportOf r damageReport (lossReason (l .phase) k))
   unfolding reportOf namesBytes begun
-  loses k o w = record { open-there = o; why = w; index = refl; size = refl }
+  loses k o w q = record { open-there = o; why = w; index = refl; size = refl; reason = ap (lossReason (l .phase)) (sym q) }
+
+  ended : isSilent (gapOf (l .mark) (e .start)) ≡ true → held-why ≡ brokenOff
+  ended s = rw s refl
+
+  in-time : isSilent (gapOf (l .mark) (e .start)) ≡ false → held-why ≡ closed
+  in-time s = rw s refl
 
   silence-loses : Damages (Loses l e) (tells r (afterSilence (r .phase) (gapOf (l .mark) (e .start))))
   unfolding afterSilence begun
@@ -164,7 +177,7 @@ module _ (l : Link) (e : Event) (g : Long (l .phase)) where
       move-damages (Loses l e) r (afterSilence (l .phase) gap)
       (by-test (λ (m : Move). m .number ≡ damageReport → Loses l e (reportOf r (m .number) (m .reason))) (isOpen (l .phase .state) && isSilent gap)
       {x = makes damageReport (lossReason (l .phase) brokenOff) (settled (l .phase))} {y = still (l .phase)}
-      (λ c _. let z = and-split (isOpen (l .phase .state)) (isSilent gap) c in loses _ (z .0) (inl (z .1))) (λ _ z. absurd (omega arith)))
+      (λ c _. let z = and-split (isOpen (l .phase .state)) (isSilent gap) c in loses brokenOff (z .0) (inl (z .1)) (ended (z .1))) (λ _ z. absurd (omega arith)))
 
   passing-loses : Damages (Loses l e) (passedTells r (l .mark) (e .start))
   unfolding passedTells
@@ -184,18 +197,18 @@ module _ (l : Link) (e : Event) (g : Long (l .phase)) where
       (moves-other D r3 m4 (window-other (r3 .phase) (l .mark) (e .start)))
 
   -- what closes
-  left-loses : (k : ℕ) → isOpen (s .phase .state) ≡ true → Closer e → Loses l e (reportOf s damageReport k)
+  left-loses : isOpen (s .phase .state) ≡ true → Closer e → Loses l e (reportOf s damageReport (lossReason (s .phase) closed))
   unfolding begun
-  left-loses k o c =
-      subst (λ (x : Run). Loses l e (reportOf x damageReport k)) (sym (same-run r (l .mark) (e .start) o))
-      (loses k (was-open r (l .mark) (e .start) o) (inr c))
+  left-loses o c =
+      subst (λ (x : Run). Loses l e (reportOf x damageReport (lossReason (x .phase) closed))) (sym (same-run r (l .mark) (e .start) o))
+      (loses closed (was-open r (l .mark) (e .start) o) (inr c) (in-time (passed-recent r (l .mark) (e .start) o)))
 
   closing-loses : Closer e → Damages (Loses l e) (tells s (closing (s .phase)))
   unfolding closing
   closing-loses c =
       move-damages (Loses l e) s (closing (s .phase))
       (by-test (λ (m : Move). m .number ≡ damageReport → Loses l e (reportOf s (m .number) (m .reason))) (isOpen (s .phase .state))
-      {x = makes damageReport (lossReason (s .phase) closed) (settled (s .phase))} (λ o _. left-loses _ o c)
+      {x = makes damageReport (lossReason (s .phase) closed) (settled (s .phase))} (λ o _. left-loses o c)
       (λ _. by-test (λ (m : Move). m .number ≡ damageReport → Loses l e (reportOf s (m .number) (m .reason))) (isStarting (s .phase .state))
       {x = makes failedReport closed down} {y = still (s .phase)} (λ _ z. absurd (omega arith)) (λ _ z. absurd (omega arith))))
 
@@ -295,7 +308,7 @@ module _ (es : Log) (e : Event) where
   abbrev here : Link
   here = after stepOf es .link
 
-  damage-at : (x : Report) → Among x (reportsTo stepOf es e) → x .number ≡ damageReport → Loses here e x
+  pub damage-at : (x : Report) → Among x (reportsTo stepOf es e) → x .number ≡ damageReport → Loses here e x
   damage-at x i n = all-loses here e (long-of es) x (subst (Among x) (reports-made es e (taken-by-report es e x i)) i) n
 
 -- IT NAMES ALL THAT IS HELD

@@ -40,6 +40,7 @@ use Rattle.demands.specs.Connecting.{Connects, Connected}
 use Rattle.demands.specs.Sessions.{Talk, Session, SomeSession, IsIn, Reads, OpensIn, Turns, gapBefore, NoReply}
 use Rattle.demands.specs.Each.{Formed}
 use Rattle.demands.specs.Failing.{UnderWay, Fails}
+use Rattle.demands.specs.Damage.{Damaged}
 use Rattle.demands.specs.Endings.{Starter, NotIdle, WrongLow, Starting, AnswersStop, Downs}
 use Rattle.demands.specs.Messages.{EndsInFrame, ReportsFrame}
 use Rattle.demands.proofs.Leaving as leaving
@@ -53,6 +54,7 @@ use Rattle.demands.proofs.Session as session
 use Rattle.demands.proofs.Opening as opening
 use Rattle.demands.proofs.Beginning as beginning
 use Rattle.demands.proofs.Damaging as damaging
+use Rattle.demands.proofs.Breaking as breaking
 use Rattle.demands.proofs.Reporting as reporting
 
 -- ---- a. KEY BYTES, FRAMES, TIMING CODES: what the crates below have proved, in one place
@@ -159,6 +161,13 @@ damage-exactly = damaging.damage-exactly
 pub damage-names : (es : Log) (e : Event) (r : Report) → Among r (reportsTo ourStep es e) → r .number ≡ damageReport
     → (r .bytes ≡ heldIn ourStep es) × (r .first + r .bytes ≡ length (heardIn es))
 damage-names = damaging.damage-names
+
+-- Its reason is 3 or 4 exactly if its first byte was early or stray. Where it was neither, the reason is the one that the bytes named give under the
+-- session's KB1, by the first of them that fails (5, 6 or 8 the first byte, 7, 8 or 9 a later one); and where none fails, a message was held, and the
+-- reason is 1 if 20 ms have passed since the mark, and else 2.
+pub damage-reasons : (es : Log) (e : Event) (r : Report) → InBytes (es ▷ e) → Among r (reportsTo ourStep es e) → r .number ≡ damageReport
+    → Damaged ourStep es e r
+damage-reasons = breaking.damage-reasons
 
 -- Outside a session there is neither a report 1 nor a report 2.
 pub messages-in-session : (es : Log) (e : Event) (r : Report) → InBytes (es ▷ e) → Among r (reportsTo ourStep es e)

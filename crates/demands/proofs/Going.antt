@@ -37,9 +37,12 @@ use Rattle.link.specs.Handling.{passed}
 use Rattle.link.proofs.Three.{tells, passedTells}
 use Rattle.demands.specs.Endings.{Answers}
 use Rattle.demands.specs.Logs.{Log, _▷_, heardIn, takenOf, Begins, more}
+use Rattle.demands.specs.Refusals.{Not}
 use Rattle.demands.specs.Histories.{isAmong, Tells}
 use Rattle.demands.specs.Accounts.{namedBy}
 use Rattle.demands.specs.Sessions.{Frames, stops, pendingIn, Talk, afterReport, talkAfter, inForce, gapBefore, Stray, Early}
+use Rattle.demands.specs.Damage.{bytesOf, reasonBehind, reasonIn}
+use Rattle.demands.proofs.Gathering.{same-events}
 use Rattle.demands.proofs.Behind.{FirstOf, Speaking, Finishes, Turned}
 use Rattle.demands.proofs.Carrying.{Kept, GoneOn}
 use Rattle.demands.proofs.Saying.{Each, each-none, each-one, each-both, says-both, talk-both}
@@ -65,8 +68,13 @@ pub record Holds (es : Log) (t : Talk) (b : Event) (p : Phase) (named : ℕ) : T
   pub whose : p .message .side ≡ b .side
   pub spoken : Speaking t b es (head ∷ rest)
 
+-- the reason that a phase gives for what is open, however its bytes go on: that of the damage, or the one that a held message gets from them
+abbrev pub reasonWith : Phase → List Event → ℕ
+reasonWith p bs = if isHeld (p .state) then reasonBehind (p .message) bs else p .message .why
+
 -- A message held or damage: its first byte, and whether that was early or stray; no report was made since, so that the session is the present one.
--- While it is the only byte, a message is held if there is no reason against it.
+-- While it is the only byte, a message is held if there is no reason against it. Damage has a reason; where the first byte was neither
+-- early nor stray, it is the one that the bytes give.
 pub record Opened (es : Log) (t : Talk) (p : Phase) (named : ℕ) : Type 0 where
   pub before : Log
   pub byte : Event
@@ -78,6 +86,9 @@ pub record Opened (es : Log) (t : Talk) (p : Phase) (named : ℕ) : Type 0 where
   pub fresh : length (heardIn es) ≡ named + 1
       → firstReason (t .kb1) (t .reply) (inForce t) (byte .side) (byte .value) (gapBefore (takenOf before) byte) ≡ noReason
       → isHeld (p .state) ≡ true
+  pub reasoned : Not (Early t (t .reply) (gapBefore (takenOf before) byte) byte) → Not (Stray t (t .reply) (gapBefore (takenOf before) byte) byte)
+      → (bs : List Event) → reasonIn (t .kb1) (drop named (bytesOf (takenOf es)) ++ bs) ≡ reasonWith p bs
+  pub against : isHeld (p .state) ≡ false → Not (p .message .why ≡ noReason)
   pub held : isHeld (p .state) ≡ true → Holds es t byte p named
 
 -- a phase with bytes named and heard, behind es in the session t
@@ -113,6 +124,8 @@ module _ (es : Log) (e : Event) (t : Talk) (p : Phase) (named : ℕ) (same : hea
     hasty = o .hasty;
     astray = o .astray;
     fresh = λ n. o .fresh (sym (ap length same) ∙ n);
+    reasoned = λ x y bs. ap (λ (l : List Event). reasonIn (t .kb1) (drop named l ++ bs)) (same-events es e same) ∙ o .reasoned x y bs;
+    against = o .against;
     held = λ h. holds-more (o .byte) f (o .held h);
   }
 
@@ -199,7 +212,7 @@ module _ (es : Log) (e : Event) (all : List Report) where
       }
 
   -- ---- a report 2
-  same-loss : (p : Phase) (why k : ℕ) → (why ≡ k → ⊥) → (noReason ≡ k → ⊥) → (lossReason p why ≡ k) ↔ (lossReason p noReason ≡ k)
+  pub same-loss : (p : Phase) (why k : ℕ) → (why ≡ k → ⊥) → (noReason ≡ k → ⊥) → (lossReason p why ≡ k) ↔ (lossReason p noReason ≡ k)
   unfolding lossReason
   same-loss p why k h z = by-held (isHeld (p .state))
     where

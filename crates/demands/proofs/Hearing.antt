@@ -3,11 +3,11 @@
 -- Assumes nothing.
 use Prim.Native.Nat.{ℕ, _+_, _-_, _≤_, _<_}
 use mathlib.Core.Bool.{Bool, true, false, not, _&&_, _||_, false≢true}
-use mathlib.Core.List.{List, [], _∷_, _++_, append-nil}
+use mathlib.Core.List.{List, [], _∷_, _++_, append-nil, append-assoc}
 use mathlib.Core.Path.{_≡_, refl, sym, ap, ap₂, _∙_, subst}
 use mathlib.Core.Logic.{_↔_, ⊎-elim}
 use native.Mathlib.Omega.{arith}
-use borrow.Author.Tests.{eq-eqb, eqb-true, eqb-false, not-false}
+use borrow.Author.Tests.{eq-eqb, eqb-true, eqb-false, not-true, not-false}
 use lib.Dec.{eqb}
 use lib.ListN.{length, getD, take, drop, length-append, length-drop}
 use lib.Seq.{take-all, drop-append-le, drop-at, getD-drop}
@@ -55,12 +55,14 @@ use Rattle.demands.specs.Sessions.{talkAfter, Session, inForce, gapBefor
 use Rattle.demands.proofs.Carrying.{Carries, Kept, begun as gone-none, on, gone-by, gone-ends, ends-now, kept-asked, message-carries}
 use Rattle.demands.proofs.Carrying.{reply-windows, reply-request, reply-stops}
 use Rattle.demands.specs.Messages.{InTime}
+use Rattle.demands.specs.Damage.{bytesOf, reasonBehind, reasonIn}
+use Rattle.demands.proofs.Gathering.{same-length, byte-events, head-wrong, head-right, later-wrong, later-right}
 use Rattle.demands.proofs.Behind.{FirstOf, Speaking, begins, grows}
 use Rattle.demands.proofs.Tiling.{sum-is}
 use Rattle.demands.proofs.Listening.{Bytes, byte-longer, begins-longer}
 use Rattle.demands.proofs.Saying.{Each, each-none, each-one, each-both}
-use Rattle.demands.proofs.Reasons.{same-is, has-side, first-early, first-stray, first-head, later-elsewhere}
-use Rattle.demands.proofs.Going.{Fits, Holds, Opened, At, Told, plain, turned}
+use Rattle.demands.proofs.Reasons.{same-is, has-side, first-early, first-stray, first-else, first-head, later-elsewhere}
+use Rattle.demands.proofs.Going.{Fits, Holds, reasonWith, Opened, At, Told, plain, turned}
 use Rattle.demands.proofs.Closing.{Ends, still-up, over}
 
 -- ---- small laws
@@ -189,6 +191,12 @@ module _ (es : Log) (e : Event) (all : List Report) (kind : e .kind ≡ Byte) (n
     named-is : length (heardIn es) ≡ named
     named-is = sym (a .bytes) ∙ sym (a .calm quiet)
 
+    -- the bytes from it on
+    first-event : (bs : List Event) → drop named (bytesOf (takenOf (es ▷ e))) ++ bs ≡ e ∷ bs
+    first-event bs =
+        ap (λ (l : List Event). drop named l ++ bs) (byte-events es e number kind)
+        ∙ ap (λ (l : List Event). l ++ bs) (drop-at (bytesOf (takenOf es)) (e ∷ []) named (same-length (takenOf es) ∙ named-is))
+
     opening : FirstOf t es e
     opening = record { session = s; kind = kind; number = number; alone = last ∙ sym named-is }
 
@@ -209,6 +217,10 @@ module _ (es : Log) (e : Event) (all : List Report) (kind : e .kind ≡ Byte) (n
             hasty = reason-early noReason (sym z);
             astray = reason-stray noReason (sym z);
             fresh = λ _ _. refl;
+            reasoned = λ _ _ bs.
+                ap (reasonIn (t .kb1)) (first-event bs) ∙ head-right (t .kb1) e bs (first-head (t .kb1) (t .reply) (inForce t) (e .side) (e .value)
+                (gapBefore (takenOf es) e) (sym reason-by ∙ z));
+            against = λ h. absurd (false≢true (sym h));
             held = λ _. record {
               head = e .value;
               rest = [];
@@ -242,6 +254,10 @@ module _ (es : Log) (e : Event) (all : List Report) (kind : e .kind ≡ Byte) (n
             hasty = reason-early reason refl;
             astray = reason-stray reason refl;
             fresh = λ _ z. absurd (n (reason-by ∙ z));
+            reasoned = λ x y bs.
+                let q = reason-by ∙ first-else t (gapBefore (takenOf es) e) e sided (t .kb1) x y in
+                ap (reasonIn (t .kb1)) (first-event bs) ∙ head-wrong (t .kb1) e bs (λ z. n (q ∙ z)) ∙ sym q;
+            against = λ _. n;
             held = λ h. absurd (false≢true h);
           };
         }
@@ -265,11 +281,22 @@ module _ (es : Log) (e : Event) (all : List Report) (kind : e .kind ≡ Byte) (n
       silent-byte t r _ (first-opens (r .phase) (gapOf mark (e .start))) (λ s n. first-at t (r .phase) (r .named) (r .heard) a q s n)
 
   -- ---- a later byte
+  -- it joins the bytes that are open
+  one-event : (t : Talk) (p : Phase) (named : ℕ) → Opened es t p named
+      → drop named (bytesOf (takenOf (es ▷ e))) ≡ drop named (bytesOf (takenOf es)) ++ (e ∷ [])
+  one-event t p named o =
+      let longer = begins-longer (o .begins) in
+      let first = byte-longer (o .before) (o .byte) (o .first .number) (o .first .kind) in
+      let size = same-length (takenOf es) in
+      let index = o .index in
+      ap (drop named) (byte-events es e number kind) ∙ drop-append-le named (bytesOf (takenOf es)) (e ∷ []) (omega arith)
+
   -- what is open goes on
   still-open : (t : Talk) (p q : Phase) (named : ℕ) (o : Opened es t p named) → ((lossReason q noReason ≡ early) ↔ (lossReason p noReason ≡ early))
-      → ((lossReason q noReason ≡ stray) ↔ (lossReason p noReason ≡ stray)) → (isHeld (q .state) ≡ true → Holds (es ▷ e) t (o .byte) q named)
+      → ((lossReason q noReason ≡ stray) ↔ (lossReason p noReason ≡ stray)) → ((bs : List Event) → reasonWith p (e ∷ bs) ≡ reasonWith q bs)
+      → (isHeld (q .state) ≡ false → q .message .why ≡ noReason → ⊥) → (isHeld (q .state) ≡ true → Holds (es ▷ e) t (o .byte) q named)
       → Opened (es ▷ e) t q named
-  still-open t p q named o f g h = record {
+  still-open t p q named o f g k n h = record {
     before = o .before;
     byte = o .byte;
     begins = more (o .begins);
@@ -277,13 +304,18 @@ module _ (es : Log) (e : Event) (all : List Report) (kind : e .kind ≡ Byte) (n
     index = o .index;
     hasty = (λ x. o .hasty .0 (f .0 x), λ x. f .1 (o .hasty .1 x));
     astray = (λ x. o .astray .0 (g .0 x), λ x. g .1 (o .astray .1 x));
-    fresh = λ n.
+    fresh = λ one.
         let longer = begins-longer (o .begins) in
         let first = byte-longer (o .before) (o .byte) (o .first .number) (o .first .kind) in
         let size = ap length one-more in
-        let one = length-append (heardIn es) (e .value ∷ []) in
+        let more = length-append (heardIn es) (e .value ∷ []) in
         let index = o .index in
         absurd (omega arith);
+    reasoned = λ x y bs.
+        ap (λ (l : List Event). reasonIn (t .kb1) (l ++ bs)) (one-event t p named o)
+        ∙ ap (reasonIn (t .kb1)) (append-assoc (drop named (bytesOf (takenOf es))) (e ∷ []) bs)
+        ∙ o .reasoned x y (e ∷ bs) ∙ k bs;
+    against = n;
     held = h;
   }
 
@@ -294,7 +326,8 @@ module _ (es : Log) (e : Event) (all : List Report) (kind : e .kind ≡ Byte) (n
     fits = a .fits;
     bytes = heard-more heard (a .bytes);
     calm = λ q. absurd (false≢true (sym (ap isQuiet st) ∙ q));
-    opened = λ o. still-open t p p named (a .opened o) (λ x. x, λ x. x) (λ x. x, λ x. x) (λ h. absurd (false≢true (sym (ap isHeld st) ∙ h)));
+    opened = λ o. still-open t p p named (a .opened o) (λ x. x, λ x. x) (λ x. x, λ x. x) (λ _. rw (ap isHeld st) refl) (a .opened o .against)
+        (λ h. absurd (false≢true (sym (ap isHeld st) ∙ h)));
   }
 
   damage-ends : (t : Talk) (r : Run) → At es t (r .phase) (r .named) (r .heard) → r .phase .state ≡ Damage → Heard t r (still (r .phase))
@@ -311,9 +344,12 @@ module _ (es : Log) (e : Event) (all : List Report) (kind : e .kind ≡ Byte) (n
     same-reason : (k n : ℕ) → (k ≡ n → ⊥) → (noReason ≡ n → ⊥) → (k ≡ n) ↔ (lossReason (r .phase) noReason ≡ n)
     same-reason k n x y = (λ q. absurd (x q), λ q. absurd (y (sym (held-loss (r .phase) noReason h) ∙ q)))
 
-    later-damaged : At (es ▷ e) t (damaged (r .phase) wrong) (r .named) (countSum (r .heard) 1)
+    held-reason : (bs : List Event) → reasonWith (r .phase) bs ≡ reasonBehind (r .phase .message) bs
+    held-reason bs = rw h refl
+
+    later-damaged : (wrong ≡ noReason → ⊥) → At (es ▷ e) t (damaged (r .phase) wrong) (r .named) (countSum (r .heard) 1)
     unfolding damaged talking isConnected isQuiet isHeld lossReason
-    later-damaged =
+    later-damaged n =
         let f = a .fits in
         let x = later-elsewhere (r .phase .message) (e .side) (e .value) in
         record {
@@ -321,7 +357,8 @@ module _ (es : Log) (e : Event) (all : List Report) (kind : e .kind ≡ Byte) (n
           bytes = heard-more (r .heard) (a .bytes);
           calm = λ q. absurd (false≢true q);
           opened = λ _. still-open t (r .phase) (damaged (r .phase) wrong) (r .named) o
-              (same-reason wrong early (x .0) (λ z. omega arith)) (same-reason wrong stray (x .1) (λ z. omega arith)) (λ y. absurd (false≢true y));
+              (same-reason wrong early (x .0) (λ z. omega arith)) (same-reason wrong stray (x .1) (λ z. omega arith))
+              (λ bs. held-reason (e ∷ bs) ∙ later-wrong (r .phase .message) e bs n) (λ _. n) (λ y. absurd (false≢true y));
         }
 
     abbrev held : Holds es t (o .byte) (r .phase) (r .named)
@@ -372,6 +409,7 @@ module _ (es : Log) (e : Event) (all : List Report) (kind : e .kind ≡ Byte) (n
           calm = λ q. absurd (false≢true q);
           opened = λ _. still-open t (r .phase) (holding (r .phase) (grown (r .phase .message) (e .value))) (r .named) o
               (same-reason noReason early (λ z. omega arith) (λ z. omega arith)) (same-reason noReason stray (λ z. omega arith) (λ z. omega arith))
+              (λ bs. held-reason (e ∷ bs) ∙ later-right (r .phase .message) e bs w) (λ z. absurd (false≢true (sym z)))
               (λ _. record {
                 head = held .head;
                 rest = held .rest ++ (e .value ∷ []);
@@ -599,7 +637,7 @@ module _ (es : Log) (e : Event) (all : List Report) (kind : e .kind ≡ Byte) (n
     later-ends =
         let m = r .phase .message in
         by-test (λ (x : Move). Heard t r x) (not (eqb wrong noReason)) {x = still (damaged (r .phase) wrong)}
-        (λ _. silent-byte t r (damaged (r .phase) wrong) (damaged-open wrong) (λ _ _. later-damaged))
+        (λ c. silent-byte t r (damaged (r .phase) wrong) (damaged-open wrong) (λ _ _. later-damaged (eqb-false wrong noReason (not-true (eqb wrong noReason) c))))
         (λ c.
         let z = eqb-true wrong noReason (not-false (eqb wrong noReason) c) in
         by-test (λ (x : Move). Heard t r x) (isSum (m .part)) {x = makes frameReport noReason (framed (r .phase))}

@@ -266,7 +266,7 @@ unfolding InBytes
 begins-bytes whole i = i
 begins-bytes (more b) i = begins-bytes b (i .0)
 
-front-bytes : {before es : Log} {b : Event} → Begins (before ▷ b) es → InBytes es → InBytes before
+pub front-bytes : {before es : Log} {b : Event} → Begins (before ▷ b) es → InBytes es → InBytes before
 unfolding InBytes
 front-bytes x i = begins-bytes x i .0
 

@@ -216,7 +216,7 @@ module _ (t : Talk) (gap : Micros) (b : Event) (sided : isNobody (b .side) ≡ f
       let y = turn-stray-by t gap b (b .side) refl sided in
       (λ e. y .0 (x .0 e), λ e. x .1 (y .1 e))
 
--- neither early nor stray, and with a right head, it gets no reason
+-- neither early nor stray, it gets the reason of its head; and with a right head none
 turn-else : (reply : Reply) (w : Windows) (side : Side) (gap : Micros) → (turnReason reply w side gap ≡ early → ⊥)
     → (turnReason reply w side gap ≡ stray → ⊥)
     → turnReason reply w side gap ≡ noReason
@@ -232,14 +232,18 @@ turn-else reply w side gap f g = by-tests (isTester side) (isFirst reply || isEa
     by-tests false b false true f g = absurd (f refl)
     by-tests false b false false f g = refl
 
+pub first-else : (t : Talk) (gap : Micros) (b : Event) → isNobody (b .side) ≡ false → (kb1 : ℕ) → (Early t (t .reply) gap b → ⊥) → (Stray t (t .reply) gap b → ⊥)
+    → firstReason kb1 (t .reply) (inForce t) (b .side) (b .value) gap ≡ headReason kb1 (b .value)
+unfolding firstReason
+first-else t gap b sided kb1 f g =
+    let z = turn-else (t .reply) (inForce t) (b .side) gap (λ q. f (turn-early-by t gap b (b .side) refl sided .0 q))
+    (λ q. g (turn-stray-by t gap b (b .side) refl sided .0 q)) in
+    rw (eq-eqb (turnReason (t .reply) (inForce t) (b .side) gap) noReason z) refl
+
 pub first-none : (t : Talk) (gap : Micros) (b : Event) → isNobody (b .side) ≡ false → (kb1 : ℕ) → (Early t (t .reply) gap b → ⊥) → (Stray t (t .reply) gap b → ⊥)
     → headReason kb1 (b .value) ≡ noReason
     → firstReason kb1 (t .reply) (inForce t) (b .side) (b .value) gap ≡ noReason
-unfolding firstReason
-first-none t gap b sided kb1 f g h =
-    let z = turn-else (t .reply) (inForce t) (b .side) gap (λ q. f (turn-early-by t gap b (b .side) refl sided .0 q))
-    (λ q. g (turn-stray-by t gap b (b .side) refl sided .0 q)) in
-    rw (eq-eqb (turnReason (t .reply) (inForce t) (b .side) gap) noReason z) h
+first-none t gap b sided kb1 f g h = first-else t gap b sided kb1 f g ∙ h
 
 -- where a first byte gets no reason, its head gets none
 pub first-head : (kb1 : ℕ) (reply : Reply) (w : Windows) (side : Side) (f : ℕ) (gap : Micros) → firstReason kb1 reply w side f gap ≡ noReason

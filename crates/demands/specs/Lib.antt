@@ -11,3 +11,4 @@ pub mod Messages
 pub mod Endings
 pub mod Failing
 pub mod Each
+pub mod Damage
