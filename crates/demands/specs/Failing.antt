@@ -39,7 +39,8 @@ unfoldable pub dueFrom : Event → Log → Micros
 dueFrom a none = if isAddress (a .kind) then a .end else a .start
 dueFrom a (bs ▷ b) = b .end
 
--- AN INITIALIZATION UNDER WAY in a log: the address or wake-up that started it, the events before, and its bytes so far. A log has no two.
+-- AN INITIALIZATION UNDER WAY in a log: the address or wake-up that started it, the events before, and its bytes so far. A log has no two. (That it lasts
+-- still is `Starting`, which stands beside it.)
 pub record UnderWay (log : Log) : Type 0 where
   pub start : Event
   pub before : Log
