@@ -38,7 +38,7 @@ use Rattle.demands.specs.Logs.{Log, none, _▷_, heardOf, countOf, clock
 use Rattle.demands.specs.Histories.{Step, after, reportsTo, reportsOf, isAmong}
 use Rattle.demands.specs.Accounts.{InTurn, reportsIn, countsOf, Accounted}
 use Rattle.demands.proofs.Example.{byteFrom, fastEvents, fastLast}
-use Rattle.demands.specs.Wrong.{unchanged, idling, inventing, behind, twice}
+use Rattle.demands.specs.Wrong.{outside, unchanged, idling, inventing, behind, twice}
 
 -- ---- some events
 -- a tick, and two bytes that a fresh link hears
@@ -90,6 +90,8 @@ pub record Computed : Type 0 where
   pub of-inventing : fair inventing (none ▷ tick) ≡ false
   pub of-behind : fair behind retiming ≡ false
   pub of-twice : fair twice retiming ≡ false
+  -- "though demand 3 would pass it"
+  pub of-outside : fair outside retiming ≡ true
   -- and of our own step, by which the gate's edits of it (must-fail/) are seen refused first
   pub ours-taken : after stepOf retiming .link .taken ≡ 26
   pub ours-fair : fair stepOf retiming ≡ true
@@ -107,4 +109,4 @@ unfolding
     formatForm placeAnnounced hasExtra begunMessage partAfterFormat afterAddresses laterReason isSum grown withData withSeven afterData holding talking
     framed asked answered timed settled damaged requestOf isExactly asksCodes windowsAfter isEffective windowsFor codesIn ifAllowed decodedOf isAllowed
     windowsBy minOf p2MaxOf p2Half p3MaxOf isBelow spent requestAfter sameWindows
-computed = record { of-unchanged = refl; of-idling = refl; of-inventing = refl; of-behind = refl; of-twice = refl; ours-taken = refl; ours-fair = refl; ours-connects = refl }
+computed = record { of-unchanged = refl; of-idling = refl; of-inventing = refl; of-behind = refl; of-twice = refl; of-outside = refl; ours-taken = refl; ours-fair = refl; ours-connects = refl }
