@@ -4,10 +4,8 @@
 -- Assumes nothing.
 use Prim.Native.Nat.{ℕ, _≤_}
 use mathlib.Core.List.{List}
-use mathlib.Core.Logic.{_↔_, ⊎-elim}
-use mathlib.Core.Path.{_≡_, refl, sym, subst, _∙_}
-use native.Mathlib.Omega.{arith}
-use borrow.Author.Tests.{ne-eqb}
+use mathlib.Core.Logic.{_↔_}
+use mathlib.Core.Path.{_≡_}
 use lib.ListN.{length}
 use Rattle.base.specs.Numbers.{taken}
 use Rattle.units.specs.Units.{micros}
@@ -19,61 +17,43 @@ use Rattle.frame.specs.Build.{Builds}
 use Rattle.frame.specs.Read.{notRead, readOf}
 use Rattle.frame.specs.declared.Plan.{Plan}
 use Rattle.frame.specs.declared.Built.{Built}
-use Rattle.events.specs.Events.{isOther, isByte, isNobody, isUnknown, isTooLate, isOutOfOrder, refusal}
 use Rattle.events.specs.declared.Kind.the-variants.{Byte}
 use Rattle.events.specs.declared.Side.the-variants.{Tester}
 use Rattle.events.specs.declared.Event.{Event}
-use Rattle.reports.specs.Reporting.{noReports}
-use Rattle.reports.specs.Counting.{zeroCounts, isFull}
+use Rattle.reports.specs.Counting.{zeroCounts}
 use Rattle.reports.specs.declared.Counts.{Counts}
 use Rattle.link.specs.Handling.{freshLink}
-use Rattle.link.specs.Stepping.{numberOf, refusedBy, countsAfter, stepOf}
 use Rattle.link.specs.declared.Link.{Link}
-use Rattle.link.specs.declared.Stepped.{Stepped}
 use Rattle.demands.specs.Logs.{Log, clockOf, countOf, numberAfter, takenOf}
 use Rattle.demands.specs.Refusals.{Not, Unknown, TooLate, Above, Numbered}
 use Rattle.demands.specs.Frames.{BuildNumbered, ReadNumbered, Allowed}
-use Rattle.demands.specs.Histories.{ourStep, after, answerTo, reportsOf}
-use Rattle.demands.proofs.Numbering.{zero-small, small-not-above, number-numbered, log-numbered}
-use Rattle.demands.proofs.Invariant.{kept-of, kept-small, refused-answer, number-answered}
+use Rattle.demands.specs.Histories.{ourStep, after, answerTo, AsBefore}
 use Rattle.demands.proofs.Basics as basics
 use Rattle.demands.proofs.Refusing as refusing
 use Rattle.demands.proofs.Computed.{retiming, computed}
+use Rattle.demands.proofs.Answering as answering
 
 -- THE NUMBER OF AN EVENT, for any link, any counts, any event: 1, 2, 3 or 4 exactly when its condition holds and that of no smaller number does, and
 -- 0 exactly when none of the four holds. There is no other number.
 pub numbered : (l : Link) (c : Counts) (e : Event) → Numbered (l .clock) (l .taken) c e (ourStep l c e .answer .no)
-unfolding stepOf
-numbered l c e = subst (Numbered (l .clock) (l .taken) c e) (sym (number-answered l c e)) (number-numbered l c e)
+numbered = answering.numbered
 
 -- A REFUSED EVENT CHANGES NOTHING, for any link, any counts, any event: with a number other than 0, the link and the counts are as they were, and
 -- there is no report.
-pub record AsBefore (l : Link) (c : Counts) (s : Stepped) : Type 0 where
-  pub link : s .answer .link ≡ l
-  pub counts : s .counts ≡ c
-  pub reports : s .answer .reports ≡ noReports
-
 pub refused-as-before : (l : Link) (c : Counts) (e : Event) → Not (ourStep l c e .answer .no ≡ 0) → AsBefore l c (ourStep l c e)
-unfolding stepOf refusedBy countsAfter
-refused-as-before l c e h =
-    let q = ne-eqb (numberOf l c e) taken (λ p. h (number-answered l c e ∙ p)) in
-    rw (refused-answer l c e q, q) (record { link = refl; counts = refl; reports = refl })
+refused-as-before = answering.refused-as-before
 
 -- A FRESH LINK TAKES EVENTS: with zero counts, every one whose kind and side are known, whose times are not too late, and which starts no later than
 -- it ends.
 pub fresh-takes : (e : Event) → Not (Unknown e) → Not (TooLate e) → e .start .0 ≤ e .end .0 → ourStep freshLink zeroCounts e .answer .no ≡ 0
-unfolding freshLink
-fresh-takes e known early forward =
-    numbered freshLink zeroCounts e .taken .1
-    (known, early, ⊎-elim (λ h. omega arith) (λ h. omega arith), ⊎-elim (λ h. omega arith) (small-not-above zeroCounts zero-small))
+fresh-takes = answering.fresh-takes
 
 -- One of them: a byte 55 from the tester at the very beginning.
 abbrev pub someEvent : Event
 someEvent = record { start = micros 0; end = micros 960; kind = Byte; side = Tester; value = 0x55 }
 
 pub some-event-taken : ourStep freshLink zeroCounts someEvent .answer .no ≡ 0
-unfolding stepOf numberOf refusal isUnknown isOther isByte isNobody isTooLate isOutOfOrder isFull freshLink zeroCounts
-some-event-taken = number-answered freshLink zeroCounts someEvent
+some-event-taken = answering.some-event-taken
 
 -- And all 26 of these: the initialization of document 01's example, a request for new timing, and its reply.
 pub example-taken : after ourStep retiming .link .taken ≡ 26
@@ -82,18 +62,17 @@ example-taken = computed .ours-taken
 -- THE NUMBERS OF A HISTORY, behind any events from a fresh link with zero counts that only the link changes: the number of the next event is the one
 -- that the events taken before it give, ..
 pub history-numbers : (es : Log) (e : Event) → answerTo ourStep es e .no ≡ numberAfter (takenOf es) e
-history-numbers es e = basics.numbers-by-history es e
+history-numbers = answering.history-numbers
 
 -- .. which is 1, 2, 3 or 4 exactly when its condition holds, at the end of the last event taken and the number of them, and 0 exactly when none does:
 -- the counts can be left out, ..
 pub history-numbered : (es : Log) (e : Event)
     → Numbered (clockOf (takenOf es)) (countOf (takenOf es)) zeroCounts e (answerTo ourStep es e .no)
-history-numbered es e =
-    subst (Numbered (clockOf (takenOf es)) (countOf (takenOf es)) zeroCounts e) (sym (history-numbers es e)) (log-numbered (takenOf es) e)
+history-numbered = answering.history-numbered
 
 -- .. since none of them ever comes to be above 4,000,000,000.
 pub never-above : (es : Log) → Not (Above (after ourStep es .counts))
-never-above es = small-not-above (after ourStep es .counts) (kept-small (after ourStep es) (takenOf es) (reportsOf ourStep es) (kept-of es))
+never-above = answering.never-above
 
 -- ---- FRAMES AND TIMING CODES
 -- Building gets 5, 6, 7 or 8 exactly when its condition holds and that of no smaller number does, and 0 exactly when none does: for every plan, data

@@ -4,25 +4,13 @@ use mathlib.Core.List.{List, [], _∷_, _++_, append-nil, append-assoc}
 use mathlib.Core.Path.{_≡_, refl, sym, ap, _∙_}
 use Rattle.lines.specs.Lines.{freshReading, lineOf}
 use Rattle.text.specs.Text.{headText, endText}
-use Rattle.listing.specs.Listing.{freshLister, answerText, stepped, saidOf, heldOf, listingOf}
+use Rattle.listing.specs.Listing.{freshLister, stepped, saidOf, heldOf, listingOf}
 use Rattle.listing.specs.declared.Lister.{Lister}
 use Rattle.listing.proofs.ByLines.{linesOf, listedBy, listing-by-lines}
 use Rattle.link.specs.Stepping.{stepOf}
 use Rattle.demands.specs.Logs.{Log, none, _▷_}
-use Rattle.demands.specs.Histories.{Step, after, answerTo}
-
--- ---- the history of an input: one event for each of its lines, in order. A line that can't be read gives an event of no kind, which is refused.
-unfoldable pub historyBy : Log → List (List ℕ) → Log
-historyBy es [] = es
-historyBy es (l ∷ ls) = historyBy (es ▷ lineOf l) ls
-
-abbrev pub historyOf : List ℕ → Log
-historyOf input = historyBy none (linesOf input)
-
--- what is written for events: "a line per report", "`refused N` for a refused line"
-unfoldable pub saidFor : Step → Log → List ℕ
-saidFor step none = []
-saidFor step (es ▷ e) = saidFor step es ++ answerText (answerTo step es e)
+use Rattle.demands.specs.Inputs.{historyBy, historyOf, saidFor}
+use Rattle.demands.specs.Histories.{after}
 
 -- ---- a lister behind events
 abbrev listerAfter : Log → Lister

@@ -5,7 +5,7 @@ use mathlib.Core.List.{List, [], _∷_, _++_}
 use mathlib.Core.Path.{_≡_}
 use lib.Dec.{eqb}
 use Rattle.events.specs.declared.Event.{Event}
-use Rattle.reports.specs.Reporting.{listed}
+use Rattle.reports.specs.Reporting.{noReports, listed}
 use Rattle.reports.specs.Counting.{zeroCounts}
 use Rattle.reports.specs.declared.Report.{Report}
 use Rattle.reports.specs.declared.Counts.{Counts}
@@ -69,3 +69,9 @@ pub record Tells (number reason : ℕ) (rs : List Report) : Type 0 where
   pub made : Among report rs
   pub number-is : report .number ≡ number
   pub reason-is : report .reason ≡ reason
+
+-- a step left everything as it was
+pub record AsBefore (l : Link) (c : Counts) (s : Stepped) : Type 0 where
+  pub link : s .answer .link ≡ l
+  pub counts : s .counts ≡ c
+  pub reports : s .answer .reports ≡ noReports

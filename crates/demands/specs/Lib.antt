@@ -6,6 +6,7 @@ pub mod Histories
 pub mod Starts
 pub mod Connecting
 pub mod Accounts
+pub mod Inputs
 pub mod Sessions
 pub mod Messages
 pub mod Endings

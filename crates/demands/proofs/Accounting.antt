@@ -1,0 +1,84 @@
+-- Demand 3's work: what is named and then what is held is what was heard, and the counts add up. Assumes nothing.
+use Prim.Native.Nat.{ℕ, _+_, _-_, _≤_}
+use mathlib.Core.List.{List, _++_}
+use mathlib.Core.Path.{_≡_, sym, ap, _∙_}
+use native.Mathlib.Nat.{sub-zero}
+use native.Mathlib.Omega.{arith}
+use lib.ListN.{length, take-append-drop}
+use Rattle.events.specs.declared.Event.{Event}
+use Rattle.reports.specs.Reporting.{listed}
+use Rattle.reports.specs.declared.Report.{Report}
+use Rattle.reports.specs.declared.Counts.{Counts}
+use Rattle.link.specs.Stepping.{takenBy, stepOf}
+use Rattle.link.specs.declared.Link.{Link}
+use Rattle.link.specs.declared.Answer.{Answer}
+use Rattle.link.proofs.Three.{handledTells, three-enough}
+use Rattle.text.specs.Text.{headText, endText}
+use Rattle.listing.specs.Listing.{heldOf, listingOf}
+use Rattle.demands.specs.Logs.{Log, heardIn}
+use Rattle.demands.specs.Histories.{after, answerTo, reportsOf}
+use Rattle.demands.specs.Accounts.{allNamed, lastOf, countsOf, heldIn, Accounted}
+use Rattle.demands.proofs.Tiling.{Tiled}
+use Rattle.demands.proofs.Counting.{tiled-sums}
+use Rattle.demands.proofs.Invariant.{kept-of}
+use Rattle.demands.proofs.Basics.{basics, numbers-by-history, answer-taken, calm, held-is}
+use Rattle.demands.proofs.Places.{step-placed}
+use Rattle.demands.proofs.Naming.{tiled-turns, tiled-names, tiled-named}
+use Rattle.demands.specs.Inputs.{historyOf, saidFor}
+use Rattle.demands.proofs.Shown.{listing-history}
+
+-- ---- what is named, and then what is held, is what was heard
+all-heard : (heard : List ℕ) (xs : List Report) (l : Link) → Tiled 0 xs (l .named) → l .named ≤ l .heard → l .heard ≡ length heard
+    → allNamed heard xs ++ lastOf (heldOf l) heard ≡ heard
+unfolding lastOf heldOf
+all-heard heard xs l t o e =
+    let k : length heard - (l .heard - l .named) ≡ l .named = omega arith in
+    rw (tiled-names heard t, sub-zero (l .named), k) (take-append-drop (l .named) heard)
+
+held-none : (l : Link) → l .named ≡ l .heard → heldOf l ≡ 0
+unfolding heldOf
+held-none l e = omega arith
+
+-- every byte is accounted for
+pub accounted : (es : Log) → Accounted stepOf es
+accounted es =
+    let k = kept-of es in
+    let b = basics es in
+    let l = after stepOf es .link in
+    record {
+      bytes = rw (← (held-is es)) (all-heard (heardIn es) (reportsOf stepOf es) l (k .tiled) (b .named) (b .heard));
+      heard = omega (arith, tiled-named (k .tiled), b .named, b .heard);
+      indexes = tiled-turns (k .tiled);
+      counts = k .counts;
+      held = held-is es;
+      idle = λ o s. sym (held-is es) ∙ held-none l (calm es o s);
+      three = λ e. step-placed l (after stepOf es .counts) e;
+    }
+
+-- no byte is missing from the counts
+pub all-counted : (es : Log) → length (heardIn es)
+    ≡ after stepOf es .counts .framed + after stepOf es .counts .damaged + after stepOf es .counts .started + after stepOf es .counts .outside
+    + heldIn stepOf es
+unfolding countsOf heldIn
+all-counted es =
+    let k = kept-of es in
+    let b = basics es in
+    let s = tiled-sums (k .tiled) in
+    rw (k .counts) (omega (arith, s .all, tiled-named (k .tiled), b .heard, b .named))
+
+-- no report is lost
+pub none-lost : (es : Log) (e : Event) → answerTo stepOf es e .no ≡ 0
+    → listed (answerTo stepOf es e .reports) ≡ handledTells (after stepOf es .link) e
+unfolding takenBy
+none-lost es e q =
+    ap (λ (a : Answer). listed (a .reports)) (answer-taken es e (sym (numbers-by-history es e) ∙ q)) ∙ three-enough (after stepOf es .link) e
+
+-- up to the text
+pub listing-shows : (input : List ℕ)
+    → let es = historyOf input in
+    listingOf input ≡ headText ++ (saidFor stepOf es ++ endText (countsOf (heardIn es) (reportsOf stepOf es)) (heldIn stepOf es))
+listing-shows input =
+    let es = historyOf input in
+    listing-history input
+    ∙ ap (λ (c : Counts). headText ++ (saidFor stepOf es ++ endText c (heldOf (after stepOf es .link)))) (accounted es .counts)
+    ∙ ap (λ (n : ℕ). headText ++ (saidFor stepOf es ++ endText (countsOf (heardIn es) (reportsOf stepOf es)) n)) (held-is es)

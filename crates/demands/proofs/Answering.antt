@@ -1,0 +1,59 @@
+-- Demand 1's work: an event's number by its conditions, for any link and behind any events; and that a refused event changes nothing.
+-- Assumes nothing.
+use Prim.Native.Nat.{_≤_}
+use mathlib.Core.Logic.{⊎-elim}
+use mathlib.Core.Path.{_≡_, refl, sym, subst, _∙_}
+use native.Mathlib.Omega.{arith}
+use borrow.Author.Tests.{ne-eqb}
+use Rattle.base.specs.Numbers.{taken}
+use Rattle.units.specs.Units.{micros}
+use Rattle.events.specs.Events.{isOther, isByte, isNobody, isUnknown, isTooLate, isOutOfOrder, refusal}
+use Rattle.events.specs.declared.Kind.the-variants.{Byte}
+use Rattle.events.specs.declared.Side.the-variants.{Tester}
+use Rattle.events.specs.declared.Event.{Event}
+use Rattle.reports.specs.Counting.{zeroCounts, isFull}
+use Rattle.reports.specs.declared.Counts.{Counts}
+use Rattle.link.specs.Handling.{freshLink}
+use Rattle.link.specs.Stepping.{numberOf, refusedBy, countsAfter, stepOf}
+use Rattle.link.specs.declared.Link.{Link}
+use Rattle.demands.specs.Logs.{Log, clockOf, countOf, numberAfter, takenOf}
+use Rattle.demands.specs.Refusals.{Not, Unknown, TooLate, Above, Numbered}
+use Rattle.demands.specs.Histories.{after, answerTo, reportsOf, AsBefore}
+use Rattle.demands.proofs.Numbering.{zero-small, small-not-above, number-numbered, log-numbered}
+use Rattle.demands.proofs.Invariant.{kept-of, kept-small, refused-answer, number-answered}
+use Rattle.demands.proofs.Basics as basics
+use Rattle.demands.proofs.Refusing as refusing
+
+pub numbered : (l : Link) (c : Counts) (e : Event) → Numbered (l .clock) (l .taken) c e (stepOf l c e .answer .no)
+unfolding stepOf
+numbered l c e = subst (Numbered (l .clock) (l .taken) c e) (sym (number-answered l c e)) (number-numbered l c e)
+
+pub refused-as-before : (l : Link) (c : Counts) (e : Event) → Not (stepOf l c e .answer .no ≡ 0) → AsBefore l c (stepOf l c e)
+unfolding stepOf refusedBy countsAfter
+refused-as-before l c e h =
+    let q = ne-eqb (numberOf l c e) taken (λ p. h (number-answered l c e ∙ p)) in
+    rw (refused-answer l c e q, q) (record { link = refl; counts = refl; reports = refl })
+
+pub fresh-takes : (e : Event) → Not (Unknown e) → Not (TooLate e) → e .start .0 ≤ e .end .0 → stepOf freshLink zeroCounts e .answer .no ≡ 0
+unfolding freshLink
+fresh-takes e known early forward =
+    numbered freshLink zeroCounts e .taken .1
+    (known, early, ⊎-elim (λ h. omega arith) (λ h. omega arith), ⊎-elim (λ h. omega arith) (small-not-above zeroCounts zero-small))
+
+abbrev pub someEvent : Event
+someEvent = record { start = micros 0; end = micros 960; kind = Byte; side = Tester; value = 0x55 }
+
+pub some-event-taken : stepOf freshLink zeroCounts someEvent .answer .no ≡ 0
+unfolding stepOf numberOf refusal isUnknown isOther isByte isNobody isTooLate isOutOfOrder isFull freshLink zeroCounts
+some-event-taken = number-answered freshLink zeroCounts someEvent
+
+pub history-numbers : (es : Log) (e : Event) → answerTo stepOf es e .no ≡ numberAfter (takenOf es) e
+history-numbers es e = basics.numbers-by-history es e
+
+pub history-numbered : (es : Log) (e : Event)
+    → Numbered (clockOf (takenOf es)) (countOf (takenOf es)) zeroCounts e (answerTo stepOf es e .no)
+history-numbered es e =
+    subst (Numbered (clockOf (takenOf es)) (countOf (takenOf es)) zeroCounts e) (sym (history-numbers es e)) (log-numbered (takenOf es) e)
+
+pub never-above : (es : Log) → Not (Above (after stepOf es .counts))
+never-above es = small-not-above (after stepOf es .counts) (kept-small (after stepOf es) (takenOf es) (reportsOf stepOf es) (kept-of es))
