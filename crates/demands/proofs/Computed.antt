@@ -35,7 +35,7 @@ use Rattle.reports.specs.declared.Counts.{Counts}
 use Rattle.link.specs.Handling.{freshLink, passed, shut, byteHeard, acted, begun, handled, markAfter, linkAfter}
 use Rattle.link.specs.Stepping.{numberOf, refusedBy, takenBy, answerOf, countsAfter, stepOf}
 use Rattle.demands.specs.Logs.{Log, none, _▷_, heardOf, countOf, clockOf, numberAfter, takenOf, heardIn}
-use Rattle.demands.specs.Histories.{Step, after, reportsTo, reportsOf, isAmong}
+use Rattle.demands.specs.Histories.{Step, ourStep, after, reportsTo, reportsOf, isAmong}
 use Rattle.demands.specs.Accounts.{InTurn, reportsIn, countsOf, Accounted}
 use Rattle.demands.proofs.Example.{byteFrom, fastEvents, fastLast}
 use Rattle.demands.specs.Wrong.{outside, unchanged, idling, inventing, behind, twice}
@@ -93,9 +93,9 @@ pub record Computed : Type 0 where
   -- "though demand 3 would pass it"
   pub of-outside : fair outside retiming ≡ true
   -- and of our own step, by which the gate's edits of it (must-fail/) are seen refused first
-  pub ours-taken : after stepOf retiming .link .taken ≡ 26
-  pub ours-fair : fair stepOf retiming ≡ true
-  pub ours-connects : isAmong connectedReport (reportsTo stepOf fastEvents fastLast) ≡ true
+  pub ours-taken : after ourStep retiming .link .taken ≡ 26
+  pub ours-fair : fair ourStep retiming ≡ true
+  pub ours-connects : isAmong connectedReport (reportsTo ourStep fastEvents fastLast) ≡ true
 
 pub computed : Computed
 unfolding
