@@ -3,7 +3,7 @@
 use Prim.Native.Nat.{ℕ, _<_}
 use mathlib.Core.Bool.{Bool, true, false, false≢true}
 use mathlib.Core.List.{List, [], _∷_}
-use mathlib.Core.Logic.{_↔_, _⊎_, ⊎-elim}
+use mathlib.Core.Logic.{_⊎_, ⊎-elim}
 use mathlib.Core.Path.{_≡_, refl, sym, ap, _∙_}
 use native.Mathlib.Omega.{arith}
 use lib.Dec.{eqb}
@@ -21,46 +21,39 @@ use Rattle.reports.specs.declared.Reports.{Reports}
 use Rattle.reports.specs.declared.Counts.{Counts}
 use Rattle.link.specs.Handling.{freshLink}
 use Rattle.link.specs.Stepping.{numberOf, refusedBy, answerOf, stepOf}
-use Rattle.demands.specs.Logs.{Log, none, _▷_, countOf, clockOf, numberAfter, takenOf}
+use Rattle.demands.specs.Logs.{none, _▷_, countOf, clockOf, numberAfter, takenOf}
 use Rattle.link.specs.declared.Link.{Link}
-use Rattle.demands.specs.Refusals.{Above, Numbered}
-use Rattle.demands.specs.Histories.{Step, after, reportsTo, isAmong, Says}
-use Rattle.demands.specs.Connecting.{Connects}
-use Rattle.demands.specs.Accounts.{Accounted}
+use Rattle.demands.specs.Refusals.{Above}
+use Rattle.demands.specs.Histories.{after, isAmong}
 use Rattle.demands.proofs.Example.{fastEvents, fastLast, fast-connects, fast-number}
 use Rattle.demands.specs.Wrong.{refusing, outside, unchanged, idling, inventing, behind, twice}
+use Rattle.demands.specs.DemandOne.{DemandOne}
+use Rattle.demands.specs.DemandTwo.{DemandTwo}
+use Rattle.demands.specs.DemandThree.{DemandThree}
 use Rattle.demands.proofs.Computed.{tick, twoBytes, retiming, is-fair, computed}
 
 -- ---- DEMAND 3 SHUTS OUT ..
--- the statement `demand-three`, of any step
-abbrev pub Accounts : Step → Type 0
-Accounts step = (es : Log) → Accounted step es
-
 -- .. a step that leaves the link unchanged: two bytes are both reported with index 0
-pub unchanged-shut : Accounts unchanged → ⊥
-unchanged-shut d = false≢true (sym (computed .of-unchanged) ∙ is-fair unchanged twoBytes (d twoBytes))
+pub unchanged-shut : DemandThree unchanged → ⊥
+unchanged-shut d = false≢true (sym (computed .of-unchanged) ∙ is-fair unchanged twoBytes (d .accounted twoBytes))
 
 -- .. a link that finishes on its first event and idles later: of two bytes heard it has counted one
-pub idling-shut : Accounts idling → ⊥
-idling-shut d = false≢true (sym (computed .of-idling) ∙ is-fair idling twoBytes (d twoBytes))
+pub idling-shut : DemandThree idling → ⊥
+idling-shut d = false≢true (sym (computed .of-idling) ∙ is-fair idling twoBytes (d .accounted twoBytes))
 
 -- .. a link that shows invented counts: after a tick it counts seven bytes
-pub inventing-shut : Accounts inventing → ⊥
-inventing-shut d = false≢true (sym (computed .of-inventing) ∙ is-fair inventing (none ▷ tick) (d (none ▷ tick)))
+pub inventing-shut : DemandThree inventing → ⊥
+inventing-shut d = false≢true (sym (computed .of-inventing) ∙ is-fair inventing (none ▷ tick) (d .accounted (none ▷ tick)))
 
 -- .. a link whose frame count is one behind after a timing change
-pub behind-shut : Accounts behind → ⊥
-behind-shut d = false≢true (sym (computed .of-behind) ∙ is-fair behind retiming (d retiming))
+pub behind-shut : DemandThree behind → ⊥
+behind-shut d = false≢true (sym (computed .of-behind) ∙ is-fair behind retiming (d .accounted retiming))
 
 -- .. and a link that lists the reply twice that changes its timing
-pub twice-shut : Accounts twice → ⊥
-twice-shut d = false≢true (sym (computed .of-twice) ∙ is-fair twice retiming (d retiming))
+pub twice-shut : DemandThree twice → ⊥
+twice-shut d = false≢true (sym (computed .of-twice) ∙ is-fair twice retiming (d .accounted retiming))
 
 -- ---- DEMAND 1 SHUTS OUT a link that refuses everything: a fresh link takes a tick
--- (the statement `numbered`, of any step)
-abbrev pub Numbers : Step → Type 0
-Numbers step = (l : Link) (c : Counts) (e : Event) → Numbered (l .clock) (l .taken) c e (step l c e .answer .no)
-
 under : {A : Type 0} → (4_000_000_000 < 0) ⊎ A → (A → ⊥) → ⊥
 under u f = ⊎-elim (λ h. omega arith) f u
 
@@ -68,10 +61,10 @@ no-count-above : Above zeroCounts → ⊥
 unfolding zeroCounts
 no-count-above u = under u (λ v. under v (λ w. under w (λ x. under x (λ y. under y (λ z. under z (λ h. omega arith))))))
 
-pub refusing-shut : Numbers refusing → ⊥
+pub refusing-shut : DemandOne refusing → ⊥
 unfolding freshLink zeroCounts refusedBy isOther isByte
 refusing-shut d =
-    let n = d freshLink zeroCounts tick in
+    let n = d .numbered freshLink zeroCounts tick in
     false≢true (ap (λ (k : ℕ). eqb k 0) (n .taken .1 (
       (λ u. ⊎-elim (λ k. false≢true (ap isOther k)) (λ k. false≢true (ap isByte (k .0))) u),
       (λ u. ⊎-elim (λ k. omega arith) (λ k. omega arith) u),
@@ -80,20 +73,16 @@ refusing-shut d =
     )))
 
 -- ---- DEMAND 2 SHUTS OUT a link that reports each byte as outside: it never says that it is connected
--- (the statement `connects-exactly`, of any step)
-abbrev pub ConnectsRight : Step → Type 0
-ConnectsRight step = (es : Log) (e : Event) → Says connectedReport (reportsTo step es e) ↔ ((numberAfter (takenOf es) e ≡ taken) × Connects (takenOf es) e)
-
 no-three : (b : Bool) (l : Link) (c : Counts) (e : Event) → eqb (numberOf l c e) taken ≡ b → isAmong connectedReport (listed (outside l c e .answer .reports)) ≡ false
 unfolding isAmong listed appended stepOf answerOf refusedBy
 no-three true l c e q = rw q (by-test (λ (rs : Reports). isAmong connectedReport (listed rs) ≡ false) (isByte (e .kind)) (λ t. refl) (λ t. refl))
 no-three false l c e q = rw q
 
-pub outside-shut : ConnectsRight outside → ⊥
+pub outside-shut : DemandTwo outside → ⊥
 unfolding takenOf numberAfter clockOf countOf refusal isUnknown isTooLate isOutOfOrder isOther isByte isNobody
 outside-shut d =
     let h = after outside fastEvents in
-    false≢true (sym (no-three (eqb (numberOf (h .link) (h .counts) fastLast) taken) (h .link) (h .counts) fastLast refl) ∙ d fastEvents fastLast .1 (fast-number, fast-connects))
+    false≢true (sym (no-three (eqb (numberOf (h .link) (h .counts) fastLast) taken) (h .link) (h .counts) fastLast refl) ∙ d .connects-exactly fastEvents fastLast .1 (fast-number, fast-connects))
 
 -- ---- AND a builder with one constant frame: it can't read back as two different bytes
 pub constant-shut : (frame : List ℕ) → ((byte : ℕ) → ReadsBack 0xEF 0x8F Plain 0 0 (byte ∷ []) frame) → ⊥

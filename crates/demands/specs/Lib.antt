@@ -13,3 +13,6 @@ pub mod Endings
 pub mod Failing
 pub mod Each
 pub mod Damage
+pub mod DemandOne
+pub mod DemandTwo
+pub mod DemandThree
