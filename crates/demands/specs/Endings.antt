@@ -1,5 +1,5 @@
 -- What ends an initialization and a session, told by the history (document 01, "Events and what the link does"). That the link's reports are exactly
--- these is stated in proofs/DemandTwo.antt.
+-- these is stated in DemandTwo.antt.
 -- Assumes nothing.
 use Prim.Native.Nat.{ℕ, _+_, _≤_, _<_}
 use mathlib.Core.Bool.{true}
