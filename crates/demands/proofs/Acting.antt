@@ -26,11 +26,12 @@ use Rattle.reports.specs.declared.Report.{Report}
 use Rattle.reports.specs.declared.Run.{Run}
 use Rattle.link.specs.Handling.{hearing}
 use Rattle.link.proofs.Three.{tells, shutTells, byteTells}
+use Rattle.link.proofs.Long.{open-connected, quiet-connected}
 use Rattle.demands.specs.Histories.{Tells}
 use Rattle.demands.proofs.Tiling.{moved-phase}
 use Rattle.demands.proofs.Saying.{each-both}
 use Rattle.demands.proofs.Finding.{EachOf, Makes, move-each, move-tells, tells-left, tells-right}
-use Rattle.demands.proofs.Passing.{open-is, quiet-is, open-or}
+use Rattle.demands.proofs.Passing.{open-or}
 
 -- a move that makes no report
 no-report : (C : ℕ → ℕ → Type 0) (p : Phase) → Makes C (still p)
@@ -69,8 +70,8 @@ module _ (p : Phase) where
   closing-quiet : isQuiet (closing p .phase .state) ≡ true → isConnected (p .state) ≡ true
   unfolding closing down isQuiet
   closing-quiet =
-      by-test (λ (m : Move). isQuiet (m .phase .state) ≡ true → isConnected (p .state) ≡ true) (isOpen (p .state)) (λ t _. open-is (p .state) t)
-      (λ _. by-test (λ (m : Move). isQuiet (m .phase .state) ≡ true → isConnected (p .state) ≡ true) (isStarting (p .state)) (λ _ q. absurd (false≢true q)) (λ _ q. quiet-is (p .state) q))
+      by-test (λ (m : Move). isQuiet (m .phase .state) ≡ true → isConnected (p .state) ≡ true) (isOpen (p .state)) (λ t _. open-connected (p .state) t)
+      (λ _. by-test (λ (m : Move). isQuiet (m .phase .state) ≡ true → isConnected (p .state) ≡ true) (isStarting (p .state)) (λ _ q. absurd (false≢true q)) (λ _ q. quiet-connected (p .state) q))
 
   closing-starting : isStarting (p .state) ≡ true → closing p ≡ makes failedReport closed down
   unfolding closing

@@ -32,6 +32,7 @@ use Rattle.reports.specs.declared.Run.{Run}
 use Rattle.link.specs.Handling.{passed, shut, hearing, byteHeard, actedBy, acted, begun, handled, linkAfter}
 use Rattle.link.specs.declared.Link.{Link}
 use Rattle.link.specs.Stepping.{stepOf}
+use Rattle.link.proofs.Long.{open-connected, quiet-connected}
 use Rattle.demands.specs.Logs.{Log, _▷_, numberAfter, takenOf}
 use Rattle.demands.specs.Histories.{after}
 use Rattle.demands.specs.Connecting.{Connects}
@@ -45,20 +46,10 @@ abbrev Low : Phase → Type 0
 Low p = isConnected (p .state) ≡ false
 
 low-open : (st : State) → isConnected st ≡ false → isOpen st ≡ true → ⊥
-unfolding isConnected isOpen
-low-open Down c o = false≢true o
-low-open Starting c o = false≢true o
-low-open Quiet c o = false≢true o
-low-open Held c o = false≢true (sym c)
-low-open Damage c o = false≢true (sym c)
+low-open st c o = false≢true (sym c ∙ open-connected st o)
 
 low-quiet : (st : State) → isConnected st ≡ false → isQuiet st ≡ true → ⊥
-unfolding isConnected isQuiet
-low-quiet Down c q = false≢true q
-low-quiet Starting c q = false≢true q
-low-quiet Quiet c q = false≢true (sym c)
-low-quiet Held c q = false≢true q
-low-quiet Damage c q = false≢true q
+low-quiet st c o = false≢true (sym c ∙ quiet-connected st o)
 
 in-low : (st : State) → isStarting st ≡ true → isConnected st ≡ false
 unfolding isStarting isConnected

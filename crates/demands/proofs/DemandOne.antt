@@ -22,6 +22,7 @@ proved = record {
   never-above = answering.never-above;
   building-numbered = refusing.build-numbered;
   building-as-before = refusing.build-as-before;
+  frame-size = refusing.frame-size;
   reading-numbered = refusing.read-numbered;
   reading-zeros = refusing.read-zeros;
   codes-numbered = refusing.decode-numbered;

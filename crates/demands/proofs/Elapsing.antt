@@ -26,8 +26,9 @@ use Rattle.reports.specs.Reporting.{namesBytes, told, withPhase, moved}
 use Rattle.reports.specs.declared.Run.{Run}
 use Rattle.link.specs.Handling.{passed, hearing, byteHeard}
 use Rattle.link.proofs.Three.{tells, byteTells}
+use Rattle.link.proofs.Long.{open-connected, quiet-connected}
 use Rattle.demands.proofs.Tiling.{moved-heard, moved-phase}
-use Rattle.demands.proofs.Passing.{Idled, quiet-is, open-is}
+use Rattle.demands.proofs.Passing.{Idled}
 use Rattle.demands.proofs.Acting.{quiet-shut}
 
 -- ---- the four rules by the phase alone
@@ -92,7 +93,7 @@ module _ (p : Phase) (mark start : Micros) where
       (by-p3 (isPassed (p .windows .p3max) gap) refl)
     where
       by-p3 : (b : Bool) → isPassed (p .windows .p3max) gap ≡ b → b ≡ false
-      by-p3 true h = absurd (n (open-is (p .state) o, h, λ q _. absurd (false≢true (sym (quiet-shut (p .state) q .0) ∙ o))))
+      by-p3 true h = absurd (n (open-connected (p .state) o, h, λ q _. absurd (false≢true (sym (quiet-shut (p .state) q .0) ∙ o))))
       by-p3 false h = refl
 
   -- nothing was open: a first reply stayed out, or not
@@ -127,7 +128,7 @@ module _ (p : Phase) (mark start : Micros) where
     p3-by false false f g z = rw (quiet, f, g) refl
 
     idled-by : isPassed (p .windows .p3max) gap ≡ true → (isFirst (p .reply) ≡ true → isPassed (p .windows .p2max) gap ≡ true) → ⊥
-    idled-by h w = up (quiet-is (p .state) quiet, h, λ _ f. w f)
+    idled-by h w = up (quiet-connected (p .state) quiet, h, λ _ f. w f)
 
     by-tests : (f w h : Bool) → isFirst (p .reply) ≡ f → isPassed (p .windows .p2max) gap ≡ w → isPassed (p .windows .p3max) gap ≡ h → QuietLeft
     by-tests true true true f w h = absurd (idled-by h (λ _. w))

@@ -20,6 +20,7 @@ use Rattle.link.specs.Handling.{handled, linkAfter}
 use Rattle.link.specs.Stepping.{refusedBy, takenBy, stepOf}
 use Rattle.link.specs.declared.Link.{Link}
 use Rattle.link.specs.declared.Answer.{Answer}
+use Rattle.starts.specs.declared.Start.{Start}
 use Rattle.demands.specs.Logs.{Log, none, _▷_, markOf, numberAfter, takenOf}
 use Rattle.demands.specs.Histories.{after, reportsTo, isAmong, Says}
 use Rattle.demands.specs.Starts.{SlowStart, FastStart}
@@ -41,33 +42,26 @@ module _ (log : Log) (e : Event) (x : Ends log e) where
   abbrev m : Micros
   m = markOf (x .before)
 
+  abbrev made : Start
+  made = startOn (x .start) (x .bytes)
+
+  connects-with : m .0 + 300_000 ≤ x .start .start .0
+      → SlowStart (x .start) (made .kb1) (made .kb2) (x .bytes ▷ e) ⊎ FastStart (x .start) (made .kb1) (made .kb2) (x .bytes ▷ e) → Connects log e
+  connects-with i g = record {
+    start = x .start;
+    before = x .before;
+    bytes = x .bytes;
+    kb1 = made .kb1;
+    kb2 = made .kb2;
+    since = x .since;
+    idle = i;
+    last = x .last;
+    good = g;
+  }
+
   connects-by : (k : Kind) → x .start .kind ≡ k → Starts k m (x .start) → Connects log e
-  connects-by Address k s =
-      let w = slow-done m (x .start) (x .bytes) e k (x .done) in
-      record {
-        start = x .start;
-        before = x .before;
-        bytes = x .bytes;
-        kb1 = startOn (x .start) (x .bytes) .kb1;
-        kb2 = startOn (x .start) (x .bytes) .kb2;
-        since = x .since;
-        idle = w .0;
-        last = x .last;
-        good = inl (w .1);
-      }
-  connects-by WakeUp k s =
-      let w = fast-done m (x .start) (x .bytes) e k (x .done) in
-      record {
-        start = x .start;
-        before = x .before;
-        bytes = x .bytes;
-        kb1 = startOn (x .start) (x .bytes) .kb1;
-        kb2 = startOn (x .start) (x .bytes) .kb2;
-        since = x .since;
-        idle = w .0;
-        last = x .last;
-        good = inr (w .1);
-      }
+  connects-by Address k s = let w = slow-done m (x .start) (x .bytes) e k (x .done) in connects-with (w .0) (inl (w .1))
+  connects-by WakeUp k s = let w = fast-done m (x .start) (x .bytes) e k (x .done) in connects-with (w .0) (inr (w .1))
   connects-by Byte k s = absurd s
   connects-by Tick k s = absurd s
   connects-by Drop k s = absurd s

@@ -27,6 +27,7 @@ use Rattle.moves.specs.Moves.{isIdle, isGoodLow}
 use Rattle.link.specs.declared.Link.{Link}
 use Rattle.listing.specs.Listing.{heldOf}
 use Rattle.link.specs.Stepping.{stepOf}
+use Rattle.link.proofs.Long.{quiet-connected}
 use Rattle.demands.specs.Logs.{Log, markOf, numberAfter, takenOf, InBytes}
 use Rattle.demands.specs.Refusals.{Not}
 use Rattle.demands.specs.Histories.{after, reportsTo, Says, Tells}
@@ -38,7 +39,7 @@ use Rattle.demands.proofs.Holding.{holds-some, holds-none}
 use Rattle.demands.proofs.Invariant.{kept-of}
 use Rattle.demands.proofs.Basics.{basics, held-is}
 use Rattle.demands.proofs.Session.{session-link, session-exactly}
-use Rattle.demands.proofs.Passing.{Waited, Idled, Leaves, quiet-is, open-or}
+use Rattle.demands.proofs.Passing.{Waited, Idled, Leaves, open-or}
 use Rattle.demands.proofs.Acting.{quiet-shut}
 use Rattle.demands.proofs.Causes.{DownFor as DownBy, stops, idles, drops, restarts, leftBy}
 use Rattle.demands.proofs.Causes.{of-fail, of-wait, of-down, of-not-idle, of-low, of-idle, of-dropped, of-restarted, was-connected, still-connected}
@@ -246,5 +247,5 @@ pub only-in-session : (es : Log) (e : Event) → InBytes es
     → Says noReplyReport (reportsTo stepOf es e) ⊎ Says downReport (reportsTo stepOf es e) → SomeSession stepOf es
 only-in-session es e b x =
     session-exactly es b .0
-    (⊎-elim (λ w. quiet-is (after stepOf es .link .phase .state) (of-wait _ _ _ e (says-caused es e noReplyReport w .caused .cause) refl .0))
+    (⊎-elim (λ w. quiet-connected (after stepOf es .link .phase .state) (of-wait _ _ _ e (says-caused es e noReplyReport w .caused .cause) refl .0))
     (λ d. down-connected _ _ _ e (left-at es e) (of-down _ _ _ e (says-caused es e downReport d .caused .cause) refl)) x)

@@ -27,11 +27,15 @@ use Rattle.demands.specs.Refusals.{Not, Unknown, TooLate, OutOfOrder, Ab
 abbrev pub Decides : Bool → Type 0 → Type 0
 Decides b P = (b ≡ true) ↔ P
 
-either : {P Q : Type 0} (a b : Bool) → Decides a P → Decides b Q → Decides (a || b) (P ⊎ Q)
-either true b p q = (λ _. inl (p .0 refl), λ _. refl)
-either false b p q = (λ t. inr (q .0 t), ⊎-elim (λ x. absurd (false≢true (p .1 x))) (λ y. q .1 y))
+-- of two, the second need hold only where the first does not
+pub either-of : {P Q : Type 0} (a b : Bool) → Decides a P → (a ≡ false → Decides b Q) → Decides (a || b) (P ⊎ Q)
+either-of true b p q = (λ _. inl (p .0 refl), λ _. refl)
+either-of false b p q = (λ t. inr (q refl .0 t), ⊎-elim (λ x. absurd (false≢true (p .1 x))) (λ y. q refl .1 y))
 
-both : {P Q : Type 0} (a b : Bool) → Decides a P → Decides b Q → Decides (a && b) (P × Q)
+either : {P Q : Type 0} (a b : Bool) → Decides a P → Decides b Q → Decides (a || b) (P ⊎ Q)
+either a b p q = either-of a b p (λ _. q)
+
+pub both : {P Q : Type 0} (a b : Bool) → Decides a P → Decides b Q → Decides (a && b) (P × Q)
 both true b p q = (λ t. (p .0 refl, q .0 t), λ x. q .1 (x .1))
 both false b p q = (λ t. absurd (false≢true t), λ x. p .1 (x .0))
 
@@ -105,13 +109,13 @@ decides-full events c =
     (either (ltb most (c .frames)) (ltb most (c .damages)) (below _ _) (below _ _))))))))
 
 -- ---- the number
-meets : {P : Type 0} (n : ℕ) → P → (n ≡ n) ↔ P
+pub meets : {P : Type 0} (n : ℕ) → P → (n ≡ n) ↔ P
 meets n p = (λ _. p, λ _. refl)
 
-misses : {P : Type 0} (n k : ℕ) → eqb n k ≡ false → Not P → (n ≡ k) ↔ P
+pub misses : {P : Type 0} (n k : ℕ) → eqb n k ≡ false → Not P → (n ≡ k) ↔ P
 misses n k e f = (λ q. absurd (eqb-false n k e q), λ p. absurd (f p))
 
-off : {P : Type 0} → Decides false P → Not P
+pub off : {P : Type 0} → Decides false P → Not P
 off d p = false≢true (d .1 p)
 
 module _ (clock : Micros) (events : ℕ) (c : Counts) (e : Event) where

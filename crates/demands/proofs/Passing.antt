@@ -24,7 +24,7 @@ use Rattle.reports.specs.declared.Report.{Report}
 use Rattle.reports.specs.declared.Run.{Run}
 use Rattle.link.specs.Handling.{passed}
 use Rattle.link.proofs.Three.{tells, passedTells}
-use Rattle.link.proofs.Long.{Long}
+use Rattle.link.proofs.Long.{Long, open-connected, quiet-connected}
 use Rattle.demands.specs.Histories.{Tells}
 use Rattle.demands.proofs.Tiling.{moved-phase}
 use Rattle.demands.proofs.Saying.{each-both}
@@ -55,22 +55,6 @@ off-second false b e t = absurd (false≢true t)
 both : (a b : Bool) → a ≡ true → b ≡ true → (a && b) ≡ true
 both true b h k = k
 both false b h k = absurd (false≢true h)
-
-pub open-is : (st : State) → isOpen st ≡ true → isConnected st ≡ true
-unfolding isOpen isConnected
-open-is Down o = o
-open-is Starting o = o
-open-is Quiet o = refl
-open-is Held o = refl
-open-is Damage o = refl
-
-pub quiet-is : (st : State) → isQuiet st ≡ true → isConnected st ≡ true
-unfolding isQuiet isConnected
-quiet-is Down q = q
-quiet-is Starting q = q
-quiet-is Quiet q = refl
-quiet-is Held q = refl
-quiet-is Damage q = refl
 
 open-unquiet : (st : State) → isOpen st ≡ true → isQuiet st ≡ true → ⊥
 unfolding isOpen isQuiet
@@ -147,7 +131,7 @@ module _ (p : Phase) (gap : Micros) where
       (λ t.
       let x = and-split (isQuiet (p .state) && not (isFirst (p .reply))) (isPassed (p .windows .p3max) gap) t in
       let y = and-split (isQuiet (p .state)) (not (isFirst (p .reply))) (x .0) in
-      falls (quiet-is (p .state) (y .0), x .1, λ _ k. absurd (false≢true (sym (not-true (isFirst (p .reply)) (y .1)) ∙ k))))
+      falls (quiet-connected (p .state) (y .0), x .1, λ _ k. absurd (false≢true (sym (not-true (isFirst (p .reply)) (y .1)) ∙ k))))
       (λ f. by-state f (isConnected (p .state)) refl)
     where
       first-by : (b : Bool) → isFirst (p .reply) ≡ b → isQuiet (p .state) ≡ true → Idled p gap
@@ -164,8 +148,8 @@ module _ (p : Phase) (gap : Micros) where
       by-state f false c = apart c
 
   third : (m : Move) → Long p → Second m → Third (afterP3 (m .phase) gap)
-  third m g (stayed-out w) = p3-settled (quiet-is (p .state) (w .0)) (λ _ _. w .2)
-  third m g (broke-off o) = p3-settled (open-is (p .state) o) (λ q. absurd (open-unquiet (p .state) o q))
+  third m g (stayed-out w) = p3-settled (quiet-connected (p .state) (w .0)) (λ _ _. w .2)
+  third m g (broke-off o) = p3-settled (open-connected (p .state) o) (λ q. absurd (open-unquiet (p .state) o q))
   third m g (went-by o w) = third-still g o w
 
   -- which of them makes its report

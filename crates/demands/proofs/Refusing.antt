@@ -36,17 +36,9 @@ use Rattle.frame.proofs.Sizes.{frame-length}
 use Rattle.demands.specs.Refusals.{Not}
 use Rattle.demands.specs.Frames.{BadForm, GoesInFormat, TakesExtra, BadLength, BuildNumbered, Below, Allowed}
 use Rattle.demands.specs.Frames.{lowSix, addressesIn, extraByte, BadMode, NotPlaced, HeaderSays, BadSlice, BadSum, ReadNumbered}
-use Rattle.demands.proofs.Numbering.{Decides}
+use Rattle.demands.proofs.Numbering.{Decides, either-of, both, off, meets, misses}
 
 -- ---- tests that hold exactly when conditions do
-either : {P Q : Type 0} (a b : Bool) → Decides a P → (a ≡ false → Decides b Q) → Decides (a || b) (P ⊎ Q)
-either true b p q = (λ _. inl (p .0 refl), λ _. refl)
-either false b p q = (λ t. inr (q refl .0 t), ⊎-elim (λ x. absurd (false≢true (p .1 x))) (λ y. q refl .1 y))
-
-both : {P Q : Type 0} (a b : Bool) → Decides a P → Decides b Q → Decides (a && b) (P × Q)
-both true b p q = (λ t. (p .0 refl, q .0 t), λ x. q .1 (x .1))
-both false b p q = (λ t. absurd (false≢true t), λ x. p .1 (x .0))
-
 three : {P Q R : Type 0} (a b c : Bool) → Decides a P → Decides b Q → Decides c R → Decides (a && (b && c)) (P × Q × R)
 three true true c p q r = (λ t. (p .0 refl, q .0 refl, r .0 t), λ x. r .1 (x .2))
 three true false c p q r = (λ t. absurd (false≢true t), λ x. q .1 (x .1))
@@ -75,16 +67,7 @@ decides-le a b = (leb-true a b, le-leb a b)
 same : {P Q : Type 0} (a : Bool) → Decides a P → P ↔ Q → Decides a Q
 same a p e = (λ t. e .0 (p .0 t), λ q. p .1 (e .1 q))
 
-off : {P : Type 0} → Decides false P → Not P
-off d p = false≢true (d .1 p)
-
 -- ---- the number that four tests give, one behind the other: 5, 6, 7, and one that is behind these
-meets : {P : Type 0} (n : ℕ) → P → (n ≡ n) ↔ P
-meets n p = (λ _. p, λ _. refl)
-
-misses : {P : Type 0} (n k : ℕ) → eqb n k ≡ false → Not P → (n ≡ k) ↔ P
-misses n k e f = (λ q. absurd (eqb-false n k e q), λ p. absurd (f p))
-
 record Chosen (P Q R S : Type 0) (last no : ℕ) : Type 0 where
   five : (no ≡ 5) ↔ P
   six : (no ≡ 6) ↔ (Not P × Q)
@@ -414,9 +397,9 @@ sliceTest kb1 s =
 
 decides-slice : (kb1 : ℕ) (s : List ℕ) → Decides (sliceTest kb1 s) (BadSlice kb1 s)
 decides-slice kb1 s =
-    either (eqb (length s) 0) _ (decides-eq (length s) 0)
-    (λ _. either (isNowhere (placeRead kb1 (formatByte s))) _ (decides-place kb1 s)
-    (λ h. either (eqb (lengthOf s) 0) _ (decides-none s)
+    either-of (eqb (length s) 0) _ (decides-eq (length s) 0)
+    (λ _. either-of (isNowhere (placeRead kb1 (formatByte s))) _ (decides-place kb1 s)
+    (λ h. either-of (eqb (lengthOf s) 0) _ (decides-none s)
     (λ _. opposite (eqb (length s) (startOf kb1 s + lengthOf s + 1)) (decides-size kb1 s h))))
 
 -- 9, of a slice that has its size
@@ -476,7 +459,7 @@ read-zeros kb1 kb2 s h =
 decides-below : (m : Micros) (l : Limit) → Decides (isBelow m l) (Below m l)
 unfolding isBelow isUnlimited
 decides-below m l =
-    either (eqb (l .0 .0) 18_446_744_073_709_551_615) (isEarlier m (l .0))
+    either-of (eqb (l .0 .0) 18_446_744_073_709_551_615) (isEarlier m (l .0))
     (same (eqb (l .0 .0) 18_446_744_073_709_551_615) (decides-eq (l .0 .0) 18_446_744_073_709_551_615)
     (λ p i. record { 0 = record { 0 = p i } }, λ q. ap (λ (x : Limit). x .0 .0) q))
     (λ _. decides-lt (m .0) (l .0 .0))

@@ -2,7 +2,7 @@
 use Prim.Native.Nat.{ℕ}
 use mathlib.Core.Bool.{Bool, true, false, not, _&&_, false≢true}
 use mathlib.Core.List.{[], _∷_, _++_}
-use mathlib.Core.Path.{_≡_, refl, sym, subst}
+use mathlib.Core.Path.{_≡_, _∙_, refl, sym, subst}
 use native.Mathlib.Omega.{arith}
 use borrow.Author.Tests.{eqb-true, eqb-false}
 use lib.Dec.{eqb}
@@ -34,6 +34,7 @@ use Rattle.link.specs.Stepping.{refusedBy, takenBy, stepOf}
 use Rattle.link.specs.declared.Link.{Link}
 use Rattle.link.specs.declared.Answer.{Answer}
 use Rattle.link.proofs.Three.{tells, passedTells, shutTells, byteTells, actedTells, handledTells, three-enough}
+use Rattle.link.proofs.Long.{open-connected, quiet-connected}
 use Rattle.demands.specs.Logs.{Log, numberAfter, takenOf}
 use Rattle.demands.specs.Histories.{after, answerTo, reportsTo}
 use Rattle.demands.proofs.Basics.{answer-taken, answer-refused}
@@ -51,20 +52,10 @@ abbrev Off : Phase → Type 0
 Off p = isConnected (p .state) ≡ false
 
 open-off : (st : State) → isConnected st ≡ false → isOpen st ≡ true → ⊥
-unfolding isConnected isOpen
-open-off Down c o = false≢true o
-open-off Starting c o = false≢true o
-open-off Quiet c o = false≢true o
-open-off Held c o = false≢true (sym c)
-open-off Damage c o = false≢true (sym c)
+open-off st c o = false≢true (sym c ∙ open-connected st o)
 
 quiet-off : (st : State) → isConnected st ≡ false → isQuiet st ≡ true → ⊥
-unfolding isConnected isQuiet
-quiet-off Down c q = false≢true q
-quiet-off Starting c q = false≢true q
-quiet-off Quiet c q = false≢true (sym c)
-quiet-off Held c q = false≢true (sym c)
-quiet-off Damage c q = false≢true (sym c)
+quiet-off st c o = false≢true (sym c ∙ quiet-connected st o)
 
 -- ---- the moves of a link that is not connected
 apart-tells : (r : Run) (m : Move) → Apart (m .number) → Each Other12 (tells r m)

@@ -41,7 +41,13 @@ pub record Connects (log : Log) (e : Event) : Type 0 where
 pub record Connected (log : Log) (e : Event) (c : Connects log e) (a : Answer) : Type 0 where
   -- its one report: from the first byte behind the start, as many as came since, at the event's end
   pub reports : listed (a .reports)
-      ≡ (record { first = length (heardOf (c .before)); bytes = length (heardOf (c .bytes)) + 1; time = e .end; number = connectedReport; reason = noReason } ∷ [])
+      ≡ (record {
+        first = length (heardOf (c .before));
+        bytes = length (heardOf (c .bytes)) + 1;
+        time = e .end;
+        number = connectedReport;
+        reason = noReason;
+      } ∷ [])
   -- connected, with nothing open, by these key bytes, which are a good pair
   pub state : a .link .phase .state ≡ Quiet
   pub kb1 : a .link .phase .start .kb1 ≡ c .kb1

@@ -13,7 +13,7 @@ use Rattle.timing.specs.Timing.{windowsBy, notDecoded, decodedOf, notEncoded, e
 use Rattle.timing.specs.declared.Windows.{Windows}
 use Rattle.timing.specs.declared.Codes.{Codes}
 use Rattle.timing.proofs.RoundTrip.{HasCodes}
-use Rattle.frame.specs.Build.{Builds}
+use Rattle.frame.specs.Build.{planned, sizeOf, Builds}
 use Rattle.frame.specs.Read.{notRead, readOf}
 use Rattle.frame.specs.declared.Plan.{Plan}
 use Rattle.frame.specs.declared.Built.{Built}
@@ -61,6 +61,8 @@ pub record DemandOne (step : Step) : Type 0 where
       → BuildNumbered p (length bytes) (length out) (r .no)
   pub building-as-before : (p : Plan) (bytes out : List ℕ) (r : Built) (after : List ℕ) → Builds p bytes out r after → Not (r .no ≡ 0)
       → (after ≡ out) × (r .len ≡ 0)
+  -- The room that 8 asks for is the frame's own length.
+  pub frame-size : (p : Plan) (bytes : List ℕ) → length (planned p bytes) ≡ sizeOf p (length bytes)
   -- Reading gets 5, 6, 7 or 9 exactly so, for every slice. Where it is refused, every other number is 0.
   pub reading-numbered : (kb1 kb2 : ℕ) (s : List ℕ) → ReadNumbered kb1 kb2 s (readOf kb1 kb2 s .no)
   pub reading-zeros : (kb1 kb2 : ℕ) (s : List ℕ) → Not (readOf kb1 kb2 s .no ≡ 0) → readOf kb1 kb2 s ≡ notRead (readOf kb1 kb2 s .no)

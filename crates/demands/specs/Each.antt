@@ -14,7 +14,8 @@ pub record Formed (e : Event) (r : Report) : Type 0 where
   pub time : r .time ≡ e .end
   pub number : (1 ≤ r .number) × (r .number ≤ 8)
   -- 1, 3, 5, 6 and 8 have no reason
-  pub no-reason : (r .number ≡ frameReport) ⊎ (r .number ≡ connectedReport) ⊎ (r .number ≡ outsideReport) ⊎ (r .number ≡ noReplyReport) ⊎ (r .number ≡ notIdleReport)
+  pub no-reason : (r .number ≡ frameReport) ⊎ (r .number ≡ connectedReport) ⊎ (r .number ≡ outsideReport) ⊎ (r .number ≡ noReplyReport)
+      ⊎ (r .number ≡ notIdleReport)
       → r .reason ≡ noReason
   -- 2 has one of nine, 4 one of six, 7 one of four
   pub damage : r .number ≡ damageReport → (1 ≤ r .reason) × (r .reason ≤ 9)

@@ -50,7 +50,9 @@ refusing l c e = record { answer = refusedBy l tooMany; counts = c }
 -- "one reporting each byte as outside": it takes what is to be taken, and names and counts each byte
 abbrev outsideOnly : Link → Event → Reports
 outsideOnly l e =
-    if isByte (e .kind) then appended noReports (record { first = l .heard; bytes = 1; time = e .end; number = outsideReport; reason = noReason }) else noReports
+    if isByte (e .kind)
+    then appended noReports (record { first = l .heard; bytes = 1; time = e .end; number = outsideReport; reason = noReason })
+    else noReports
 
 abbrev heardWith : Link → Event → ℕ
 heardWith l e = if isByte (e .kind) then countSum (l .heard) 1 else l .heard

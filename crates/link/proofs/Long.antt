@@ -50,7 +50,7 @@ use Rattle.link.proofs.Ways.{off-right}
 abbrev pub Long : Phase → Type 0
 Long p = isConnected (p .state) ≡ true → LongEnough (p .windows)
 
-open-connected : (st : State) → isOpen st ≡ true → isConnected st ≡ true
+pub open-connected : (st : State) → isOpen st ≡ true → isConnected st ≡ true
 unfolding isOpen isConnected
 open-connected Down h = h
 open-connected Starting h = h
@@ -58,7 +58,7 @@ open-connected Quiet h = refl
 open-connected Held h = refl
 open-connected Damage h = refl
 
-quiet-connected : (st : State) → isQuiet st ≡ true → isConnected st ≡ true
+pub quiet-connected : (st : State) → isQuiet st ≡ true → isConnected st ≡ true
 unfolding isQuiet isConnected
 quiet-connected Down h = h
 quiet-connected Starting h = h
