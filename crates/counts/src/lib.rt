@@ -2,10 +2,12 @@
 ghost use mathlib.Core.Path.{_≡_};
 ghost use Rattle.link.specs.Stepping.{countsAfter};
 ghost use Rattle.link.specs.Stepping.{answerOf};
+ghost use Rattle.link.specs.Stepping.{stepOf};
 ghost use Rattle.counts.specs.Lent.{Steps};
 use events::Event;
 use link::Answer;
 use link::Link;
+use link::Stepped;
 use reports::Counts;
 
 // What an event is answered with, on plain values.
@@ -32,4 +34,24 @@ pub fn step(counts: &mut Counts, l: Link, e: Event) -> Answer
     let d = counts_with(c, a, e);
     *counts = d;
     a
+}
+
+// An answer and counts as one value.
+fn together(a: Answer, c: Counts) -> Stepped
+    ensures { λ r. ⌜ (r .answer ≡ a) × (r .counts ≡ c) ⌝ }
+{
+    Stepped {
+        answer: a,
+        counts: c,
+    }
+}
+
+// A step with counts of the caller's own: they are lent for the step, and handed back with its
+// answer.
+pub fn step_owned(counts: Counts, l: Link, e: Event) -> Stepped
+    ensures { λ r. ⌜ r ≡ stepOf l counts e ⌝ }
+{
+    let mut lent = counts;
+    let a = step(&mut lent, l, e);
+    together(a, lent)
 }

@@ -126,11 +126,11 @@ fn print_head() {
     print(b"report reason first bytes time\n");
 }
 
-// One event is heard, and its answer is printed.
+// One event is heard, with the counts lent for it, and its answer is printed.
 fn hear(s: Session, e: Event) -> Session {
     let l = s.link;
     let c = s.counts;
-    let t = link::step(l, c, e);
+    let t = counts::step_owned(c, l, e);
     let a = t.answer;
     let d = t.counts;
     let rs = a.reports;
