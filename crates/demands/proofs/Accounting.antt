@@ -1,6 +1,11 @@
 -- Demand 3's work: what is named and then what is held is what was heard, and the counts add up. Assumes nothing.
 use Prim.Native.Nat.{ℕ, _+_, _-_, _≤_}
-use mathlib.Core.List.{List, _++_}
+use mathlib.Core.List.{List, [], _∷_, _++_}
+use mathlib.Core.Bool.{Bool, true, false}
+use lib.Dec.{eqb}
+use Rattle.base.specs.Choice.{if_then_else_}
+use Rattle.phases.specs.Phases.{isStarting, isOpen}
+use Rattle.reports.specs.declared.Reports.{Reports}
 use mathlib.Core.Path.{_≡_, sym, ap, _∙_}
 use native.Mathlib.Nat.{sub-zero}
 use native.Mathlib.Omega.{arith}
@@ -9,26 +14,27 @@ use Rattle.events.specs.declared.Event.{Event}
 use Rattle.reports.specs.Reporting.{listed}
 use Rattle.reports.specs.declared.Report.{Report}
 use Rattle.reports.specs.declared.Counts.{Counts}
-use Rattle.link.specs.Stepping.{takenBy, stepOf}
+use Rattle.link.specs.Stepping.{takenBy}
 use Rattle.link.specs.declared.Link.{Link}
 use Rattle.link.specs.declared.Answer.{Answer}
-use Rattle.link.proofs.Three.{handledTells, three-enough}
+use Rattle.link.specs.Telling.{handledTells}
+use Rattle.link.proofs.Three.{three-enough}
 use Rattle.text.specs.Text.{headText, endText}
 use Rattle.listing.specs.Listing.{heldOf, listingOf}
 use Rattle.demands.specs.Logs.{Log, heardIn}
-use Rattle.demands.specs.Histories.{after, answerTo, reportsOf}
+use Rattle.demands.specs.Histories.{after, reportsOf}
 use Rattle.demands.specs.Accounts.{allNamed, lastOf, countsOf, heldIn, Accounted}
 use Rattle.demands.proofs.Tiling.{Tiled}
 use Rattle.demands.proofs.Counting.{tiled-sums}
 use Rattle.demands.proofs.Invariant.{kept-of}
 use Rattle.demands.proofs.Basics.{basics, numbers-by-history, answer-taken, calm, held-is}
-use Rattle.demands.proofs.Places.{step-placed}
 use Rattle.demands.proofs.Naming.{tiled-turns, tiled-names, tiled-named}
 use Rattle.demands.specs.Inputs.{historyOf, saidFor}
 use Rattle.demands.proofs.Shown.{listing-history}
+use Rattle.demands.specs.Ours.{ours, ourAnswer}
 
 -- ---- what is named, and then what is held, is what was heard
-all-heard : (heard : List ℕ) (xs : List Report) (l : Link) → Tiled 0 xs (l .named) → l .named ≤ l .heard → l .heard ≡ length heard
+pub all-heard : (heard : List ℕ) (xs : List Report) (l : Link) → Tiled 0 xs (l .named) → l .named ≤ l .heard → l .heard ≡ length heard
     → allNamed heard xs ++ lastOf (heldOf l) heard ≡ heard
 unfolding lastOf heldOf
 all-heard heard xs l t o e =
@@ -39,26 +45,40 @@ held-none : (l : Link) → l .named ≡ l .heard → heldOf l ≡ 0
 unfolding heldOf
 held-none l e = omega arith
 
+-- three places
+pub listed-three : (rs : Reports) → length (listed rs) ≤ 3
+unfolding listed
+listed-three rs = by (eqb (rs .n) 0) (eqb (rs .n) 1) (eqb (rs .n) 2)
+  where
+    by : (a b c : Bool) → length (if a then [] else if b then rs .a ∷ [] else if c then rs .a ∷ rs .b ∷ [] else rs .a ∷ rs .b ∷ rs .c ∷ []) ≤ 3
+    by true b c = omega arith
+    by false true c = omega arith
+    by false false true = omega arith
+    by false false false = omega arith
+
+-- beside demand 3: none is held while neither a message, nor damage, nor an initialization is open
+pub idle-none : (es : Log) → isOpen (after ours es .link .phase .state) ≡ false → isStarting (after ours es .link .phase .state) ≡ false → heldIn ours es ≡ 0
+idle-none es o s = sym (held-is es) ∙ held-none (after ours es .link) (calm es o s)
+
 -- every byte is accounted for
-pub accounted : (es : Log) → Accounted stepOf es
+pub accounted : (es : Log) → Accounted ours es
 accounted es =
     let k = kept-of es in
     let b = basics es in
-    let l = after stepOf es .link in
+    let l = after ours es .link in
     record {
-      bytes = rw (← (held-is es)) (all-heard (heardIn es) (reportsOf stepOf es) l (k .tiled) (b .named) (b .heard));
+      bytes = rw (← (held-is es)) (all-heard (heardIn es) (reportsOf ours es) l (k .tiled) (b .named) (b .heard));
       heard = omega (arith, tiled-named (k .tiled), b .named, b .heard);
       indexes = tiled-turns (k .tiled);
       counts = k .counts;
       held = held-is es;
-      idle = λ o s. sym (held-is es) ∙ held-none l (calm es o s);
-      three = λ e. step-placed l (after stepOf es .counts) e;
+      three = λ e. listed-three (ourAnswer es e .reports);
     }
 
 -- no byte is missing from the counts
 pub all-counted : (es : Log) → length (heardIn es)
-    ≡ after stepOf es .counts .framed + after stepOf es .counts .damaged + after stepOf es .counts .started + after stepOf es .counts .outside
-    + heldIn stepOf es
+    ≡ after ours es .counts .framed + after ours es .counts .damaged + after ours es .counts .started + after ours es .counts .outside
+    + heldIn ours es
 unfolding countsOf heldIn
 all-counted es =
     let k = kept-of es in
@@ -67,18 +87,18 @@ all-counted es =
     rw (k .counts) (omega (arith, s .all, tiled-named (k .tiled), b .heard, b .named))
 
 -- no report is lost
-pub none-lost : (es : Log) (e : Event) → answerTo stepOf es e .no ≡ 0
-    → listed (answerTo stepOf es e .reports) ≡ handledTells (after stepOf es .link) e
+pub none-lost : (es : Log) (e : Event) → ourAnswer es e .no ≡ 0
+    → listed (ourAnswer es e .reports) ≡ handledTells (after ours es .link) e
 unfolding takenBy
 none-lost es e q =
-    ap (λ (a : Answer). listed (a .reports)) (answer-taken es e (sym (numbers-by-history es e) ∙ q)) ∙ three-enough (after stepOf es .link) e
+    ap (λ (a : Answer). listed (a .reports)) (answer-taken es e (sym (numbers-by-history es e) ∙ q)) ∙ three-enough (after ours es .link) e
 
 -- up to the text
 pub listing-shows : (input : List ℕ)
     → let es = historyOf input in
-    listingOf input ≡ headText ++ (saidFor stepOf es ++ endText (countsOf (heardIn es) (reportsOf stepOf es)) (heldIn stepOf es))
+    listingOf input ≡ headText ++ (saidFor es ++ endText (countsOf (heardIn es) (reportsOf ours es)) (heldIn ours es))
 listing-shows input =
     let es = historyOf input in
     listing-history input
-    ∙ ap (λ (c : Counts). headText ++ (saidFor stepOf es ++ endText c (heldOf (after stepOf es .link)))) (accounted es .counts)
-    ∙ ap (λ (n : ℕ). headText ++ (saidFor stepOf es ++ endText (countsOf (heardIn es) (reportsOf stepOf es)) n)) (held-is es)
+    ∙ ap (λ (c : Counts). headText ++ (saidFor es ++ endText c (heldOf (after ours es .link)))) (accounted es .counts)
+    ∙ ap (λ (n : ℕ). headText ++ (saidFor es ++ endText (countsOf (heardIn es) (reportsOf ours es)) n)) (held-is es)

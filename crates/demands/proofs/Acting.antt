@@ -25,7 +25,7 @@ use Rattle.reports.specs.Reporting.{moved}
 use Rattle.reports.specs.declared.Report.{Report}
 use Rattle.reports.specs.declared.Run.{Run}
 use Rattle.link.specs.Handling.{hearing}
-use Rattle.link.proofs.Three.{tells, shutTells, byteTells}
+use Rattle.link.specs.Telling.{tells, shutTells, byteTells}
 use Rattle.link.proofs.Long.{open-connected, quiet-connected}
 use Rattle.demands.specs.Histories.{Tells}
 use Rattle.demands.proofs.Tiling.{moved-phase}

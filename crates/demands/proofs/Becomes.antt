@@ -31,7 +31,6 @@ use Rattle.reports.specs.Reporting.{told, moved}
 use Rattle.reports.specs.declared.Run.{Run}
 use Rattle.link.specs.Handling.{passed, shut, hearing, byteHeard, actedBy, acted, begun, handled, linkAfter}
 use Rattle.link.specs.declared.Link.{Link}
-use Rattle.link.specs.Stepping.{stepOf}
 use Rattle.link.proofs.Long.{open-connected, quiet-connected}
 use Rattle.demands.specs.Logs.{Log, _▷_, numberAfter, takenOf}
 use Rattle.demands.specs.Histories.{after}
@@ -40,6 +39,7 @@ use Rattle.demands.proofs.Tiling.{moved-phase}
 use Rattle.demands.proofs.Entering.{In, byte-starts, start-connects}
 use Rattle.demands.proofs.Completing.{Completes, completes-run, completes-by}
 use Rattle.demands.proofs.Exactly.{link-taken, link-refused, completes-connects}
+use Rattle.demands.specs.Ours.{ours}
 
 -- ---- not connected
 abbrev Low : Phase → Type 0
@@ -193,24 +193,24 @@ module _ (l : Link) (e : Event) where
 
 -- ---- behind events
 module _ (es : Log) (e : Event) where
-  phase-taken : numberAfter (takenOf es) e ≡ taken → after stepOf (es ▷ e) .link .phase .state ≡ handled (after stepOf es .link) e .phase .state
+  phase-taken : numberAfter (takenOf es) e ≡ taken → after ours (es ▷ e) .link .phase .state ≡ handled (after ours es .link) e .phase .state
   unfolding linkAfter
   phase-taken q = ap (λ (l : Link). l .phase .state) (link-taken es e q)
 
-  becomes-by : (b : Bool) → eqb (numberAfter (takenOf es) e) taken ≡ b → isConnected (after stepOf es .link .phase .state) ≡ false
-      → isConnected (after stepOf (es ▷ e) .link .phase .state) ≡ true → (numberAfter (takenOf es) e ≡ taken) × Connects (takenOf es) e
+  becomes-by : (b : Bool) → eqb (numberAfter (takenOf es) e) taken ≡ b → isConnected (after ours es .link .phase .state) ≡ false
+      → isConnected (after ours (es ▷ e) .link .phase .state) ≡ true → (numberAfter (takenOf es) e ≡ taken) × Connects (takenOf es) e
   becomes-by true q c h =
       let t = eqb-true _ _ q in
-      (t, completes-connects es e t .0 (becomes-completes (after stepOf es .link) e c (sym (ap isConnected (phase-taken t)) ∙ h)))
+      (t, completes-connects es e t .0 (becomes-completes (after ours es .link) e c (sym (ap isConnected (phase-taken t)) ∙ h)))
   becomes-by false q c h =
       absurd (false≢true (sym c ∙ (sym (ap (λ (l : Link). isConnected (l .phase .state)) (link-refused es e (eqb-false _ _ q))) ∙ h)))
 
 -- THE THEOREM
 pub becomes-connected-exactly : (es : Log) (e : Event)
-    → ((isConnected (after stepOf es .link .phase .state) ≡ false) × (isConnected (after stepOf (es ▷ e) .link .phase .state) ≡ true))
+    → ((isConnected (after ours es .link .phase .state) ≡ false) × (isConnected (after ours (es ▷ e) .link .phase .state) ≡ true))
     ↔ ((numberAfter (takenOf es) e ≡ taken) × Connects (takenOf es) e)
 becomes-connected-exactly es e = (
   (λ h. becomes-by es e (eqb (numberAfter (takenOf es) e) taken) refl (h .0) (h .1)),
-  (λ c. let b = completes-becomes (after stepOf es .link) e (completes-connects es e (c .0) .1 (c .1)) in
+  (λ c. let b = completes-becomes (after ours es .link) e (completes-connects es e (c .0) .1 (c .1)) in
       (b .0, ap isConnected (phase-taken es e (c .0)) ∙ b .1)),
 )

@@ -9,7 +9,6 @@ use native.Mathlib.Omega.{arith}
 use lib.ListN.{length}
 use Rattle.events.specs.declared.Event.{Event}
 use Rattle.reports.specs.declared.Report.{Report}
-use Rattle.link.specs.Stepping.{stepOf}
 use Rattle.demands.specs.Logs.{Log, _▷_, heardIn, InBytes, Begins, whole, more}
 use Rattle.demands.specs.Histories.{after, reportsTo, reportsOf, Among, first, later}
 use Rattle.demands.specs.Sessions.{Talk, OpensIn}
@@ -18,6 +17,7 @@ use Rattle.demands.proofs.Naming.{tiled-order}
 use Rattle.demands.proofs.Invariant.{kept-of}
 use Rattle.demands.proofs.Saying.{among-either, not-among}
 use Rattle.demands.proofs.Opening.{opening}
+use Rattle.demands.specs.Ours.{ours}
 
 -- ---- reports one behind the other
 -- each lies between the ends
@@ -34,31 +34,31 @@ tiled-rest ys (next e f s) (next d g t) = tiled-rest ys s t
 -- ---- the reports of a history go on from those of its front
 record Later (front es : Log) : Type 0 where
   rest : List Report
-  same : reportsOf stepOf es ≡ reportsOf stepOf front ++ rest
+  same : reportsOf ours es ≡ reportsOf ours front ++ rest
 
 later-reports : {front es : Log} → Begins front es → Later front es
 unfolding reportsOf
-later-reports {front = front} whole = record { rest = []; same = sym (append-nil (reportsOf stepOf front)) }
+later-reports {front = front} whole = record { rest = []; same = sym (append-nil (reportsOf ours front)) }
 later-reports {front = front} (more {es = es} {e = e} b) =
     let x = later-reports b in
     record {
-      rest = x .rest ++ reportsTo stepOf es e;
-      same = ap (λ (rs : List Report). rs ++ reportsTo stepOf es e) (x .same) ∙ append-assoc (reportsOf stepOf front) (x .rest) (reportsTo stepOf es e);
+      rest = x .rest ++ reportsTo ours es e;
+      same = ap (λ (rs : List Report). rs ++ reportsTo ours es e) (x .same) ∙ append-assoc (reportsOf ours front) (x .rest) (reportsTo ours es e);
     }
 
 -- a report that names the byte at the index up to which the front ones name bytes begins with it
-begins-there : (front es : Log) (r : Report) → Begins front es → Among r (reportsOf stepOf es) → r .first ≤ after stepOf front .link .named
-    → after stepOf front .link .named < r .first + r .bytes → r .first ≡ after stepOf front .link .named
+begins-there : (front es : Log) (r : Report) → Begins front es → Among r (reportsOf ours es) → r .first ≤ after ours front .link .named
+    → after ours front .link .named < r .first + r .bytes → r .first ≡ after ours front .link .named
 begins-there front es r b a h k =
     let x = later-reports b in
-    let m = after stepOf es .link .named in
+    let m = after ours es .link .named in
     let rest = tiled-rest (x .rest) (kept-of front .tiled) (subst (λ (rs : List Report). Tiled 0 rs m) (x .same) (kept-of es .tiled)) in
     ⊎-elim (λ z. let y = tiled-within (kept-of front .tiled) z .1 in absurd (omega arith)) (λ z. let y = tiled-within rest z .0 in omega arith)
-    (among-either (reportsOf stepOf front) (subst (Among r) (x .same) a))
+    (among-either (reportsOf ours front) (subst (Among r) (x .same) a))
 
 -- NO FIRST BYTE ESCAPES
-pub opens-first : (before : Log) (b : Event) (t : Talk) → InBytes (before ▷ b) → OpensIn stepOf before b t → (es : Log) → Begins (before ▷ b) es → InBytes es
-    → (r : Report) → Among r (reportsOf stepOf es) → r .first ≤ length (heardIn before) → length (heardIn before) < r .first + r .bytes
+pub opens-first : (before : Log) (b : Event) (t : Talk) → InBytes (before ▷ b) → OpensIn ours before b t → (es : Log) → Begins (before ▷ b) es → InBytes es
+    → (r : Report) → Among r (reportsOf ours es) → r .first ≤ length (heardIn before) → length (heardIn before) < r .first + r .bytes
     → r .first ≡ length (heardIn before)
 unfolding InBytes
 opens-first before b t i o es g j r a h k =

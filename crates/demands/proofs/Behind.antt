@@ -12,19 +12,19 @@ use Rattle.frame.specs.Read.{readOf}
 use Rattle.events.specs.declared.Kind.the-variants.{Byte, Tick}
 use Rattle.events.specs.declared.Event.{Event}
 use Rattle.reports.specs.declared.Report.{Report}
-use Rattle.link.specs.Stepping.{stepOf}
 use Rattle.demands.specs.Logs.{Log, _▷_, heardIn, numberAfter, takenOf, Begins}
 use Rattle.demands.specs.Refusals.{Not}
 use Rattle.demands.specs.Histories.{after}
 use Rattle.demands.specs.Sessions.{Talk, Session, gapBefore, Early, Stray}
 use Rattle.demands.specs.Messages.{InTime}
+use Rattle.demands.specs.Ours.{ours}
 
 -- a byte of the session t behind it, and none but it is held then
 pub record FirstOf (t : Talk) (before : Log) (b : Event) : Type 0 where
-  pub session : Session stepOf (before ▷ b) t
+  pub session : Session ours (before ▷ b) t
   pub kind : b .kind ≡ Byte
   pub number : numberAfter (takenOf before) b ≡ taken
-  pub alone : after stepOf (before ▷ b) .link .named ≡ length (heardIn before)
+  pub alone : after ours (before ▷ b) .link .named ≡ length (heardIn before)
 
 pub record Starts (t : Talk) (before : Log) (b : Event) : Type 0 where
   pub first : FirstOf t before b

@@ -1,14 +1,14 @@
 -- The reasons of report 2, behind any events from a fresh link: 3 and 4 by its first byte, and otherwise the reason that the bytes which it names give; where
 -- they give none, a message was held, and is broken off or closed.
 -- Assumes nothing.
-use Prim.Native.Nat.{ℕ, _-_, _<_}
+use Prim.Native.Nat.{ℕ, _+_, _-_, _<_}
 use mathlib.Core.Bool.{Bool, true, false}
 use mathlib.Core.List.{[], _++_, append-nil}
 use mathlib.Core.Path.{_≡_, refl, sym, ap, ap₂, _∙_, subst}
 use mathlib.Core.Logic.{_↔_, inr}
 use native.Mathlib.Omega.{arith}
 use lib.ListN.{take, drop, length-drop}
-use lib.Seq.{take-all}
+use lib.Seq.{take-all, getD-drop}
 use Rattle.base.specs.Choice.{if_then_else_}
 use Rattle.base.specs.Reports.{damageReport, noReason, brokenOff, closed, early, stray}
 use Rattle.units.specs.Units.{gapOf}
@@ -18,21 +18,23 @@ use Rattle.phases.specs.Phases.{isHeld}
 use Rattle.phases.specs.declared.Phase.{Phase}
 use Rattle.moves.specs.Moves.{lossReason, isSilent}
 use Rattle.reports.specs.declared.Report.{Report}
-use Rattle.link.specs.Stepping.{stepOf}
 use Rattle.link.specs.declared.Link.{Link}
-use Rattle.demands.specs.Logs.{Log, _▷_, takenOf, InBytes, more}
+use Rattle.demands.specs.Logs.{Log, _▷_, heardIn, takenOf, InBytes, more}
 use Rattle.demands.specs.Refusals.{Not}
 use Rattle.demands.specs.Histories.{after, reportsTo, Among}
 use Rattle.demands.specs.Sessions.{Talk, SomeSession, gapBefore, Early, Stray, Turns}
-use Rattle.demands.specs.Damage.{bytesOf, bytesNamed, reasonBehind, reasonIn, GoesBy, Damaged}
+use Rattle.demands.specs.Damage.{bytesOf, bytesNamed, valuesOf, reasonIn, GoesBy, Damaged}
 use Rattle.demands.proofs.Basics.{basics}
-use Rattle.demands.proofs.Gathering.{same-length}
+use Rattle.demands.proofs.Gathering.{talkBehind, values-drop, same-values, same-length}
+use Rattle.demands.proofs.Faults.{reasons-agree}
+use Rattle.demands.proofs.Listening.{Bytes, heard-bytes}
 use Rattle.demands.proofs.Going.{reasonWith, Opened, same-loss}
 use Rattle.demands.proofs.Course.{session-at}
 use Rattle.demands.proofs.Reporting.{comes-in}
 use Rattle.demands.proofs.Leaving.{same-gap}
 use Rattle.demands.proofs.Opening.{silent-is, Came, came, front-bytes}
 use Rattle.demands.proofs.Damaging.{Loses, damage-at}
+use Rattle.demands.specs.Ours.{ours}
 
 -- ---- a phase's reason, by its bytes and by whether 20 ms have passed
 abbrev heldWhy : Micros → ℕ
@@ -57,7 +59,7 @@ held-closed gap n = by-silence (isSilent gap) refl
 
 goes-by : (p : Phase) (k : ℕ) (gap : Micros) (r : Report) → k ≡ reasonWith p [] → (isHeld (p .state) ≡ false → Not (p .message .why ≡ noReason))
     → r .reason ≡ lossReason p (heldWhy gap) → GoesBy k gap r
-unfolding reasonBehind lossReason
+unfolding talkBehind lossReason
 goes-by p k gap r q n e = by-state (isHeld (p .state)) refl q e
   where
     by-state : (c : Bool) → isHeld (p .state) ≡ c → k ≡ (if c then noReason else p .message .why)
@@ -66,9 +68,9 @@ goes-by p k gap r q n e = by-state (isHeld (p .state)) refl q e
     by-state false s q e = record { wrong = λ _. e ∙ sym q; broken = λ z. absurd (n s (sym q ∙ z)); closed = λ z. absurd (n s (sym q ∙ z)) }
 
 -- ---- a report 2 of an event
-module _ (es : Log) (e : Event) (r : Report) (i : InBytes (es ▷ e)) (a : Among r (reportsTo stepOf es e)) (n : r .number ≡ damageReport) where
+module _ (es : Log) (e : Event) (r : Report) (i : InBytes (es ▷ e)) (a : Among r (reportsTo ours es e)) (n : r .number ≡ damageReport) where
   abbrev l : Link
-  l = after stepOf es .link
+  l = after ours es .link
 
   abbrev gap : Micros
   gap = gapOf (l .mark) (e .start)
@@ -77,7 +79,7 @@ module _ (es : Log) (e : Event) (r : Report) (i : InBytes (es ▷ e)) (a : Among
   unfolding InBytes
   front = i .0
 
-  inside : SomeSession stepOf es
+  inside : SomeSession ours es
   inside = comes-in es e r i a (inr n)
 
   abbrev t : Talk
@@ -102,7 +104,7 @@ module _ (es : Log) (e : Event) (r : Report) (i : InBytes (es ▷ e)) (a : Among
       let x = same-loss es e [] (l .phase) (heldWhy gap) k (held-not k gap f g) h in
       (λ q. x .0 (sym (lost .reason) ∙ q .1), λ q. (n, lost .reason ∙ x .1 q))
 
-  turns : Turns stepOf (es ▷ e) r
+  turns : Turns ours (es ▷ e) r
   turns =
       let f = same-reason early (λ z. omega arith) (λ z. omega arith) (λ z. omega arith) in
       let g = same-reason stray (λ z. omega arith) (λ z. omega arith) (λ z. omega arith) in
@@ -133,12 +135,19 @@ module _ (es : Log) (e : Event) (r : Report) (i : InBytes (es ▷ e)) (a : Among
       ap₂ (λ (x y : ℕ). take x (drop y heard)) (lost .size) (lost .index) ∙ take-all (l .heard - l .named) (drop (l .named) heard) (omega arith)
       ∙ sym (append-nil (drop (l .named) heard))
 
+  -- and so they are bytes, and give the reason that crates/talk's rules give
+  named-bytes : Bytes (valuesOf (drop (l .named) (bytesOf (takenOf es)) ++ []))
+  named-bytes k =
+      rw (append-nil (drop (l .named) (bytesOf (takenOf es))), values-drop (l .named) (bytesOf (takenOf es)), same-values (takenOf es))
+      (rw (getD-drop (l .named) (heardIn es) k 0) (heard-bytes es front (l .named + k)))
+
   reason-of : Not (Early t (t .reply) firstGap (opened .byte)) → Not (Stray t (t .reply) firstGap (opened .byte))
       → reasonIn (opens .talk .kb1) (bytesNamed (bytesOf (takenOf es)) r) ≡ reasonWith (l .phase) []
   reason-of f g =
-      ap₂ reasonIn (sym (ap (λ (u : Talk). u .kb1) (opens .same))) names ∙ opened .reasoned f g []
+      ap₂ reasonIn (sym (ap (λ (u : Talk). u .kb1) (opens .same))) names
+      ∙ sym (reasons-agree (t .kb1) (drop (l .named) (bytesOf (takenOf es)) ++ []) named-bytes) ∙ opened .reasoned f g []
 
-  reasons : Damaged stepOf es e r
+  reasons : Damaged ours es e r
   unfolding turns
   reasons = record {
     turns = turns;
@@ -151,6 +160,6 @@ module _ (es : Log) (e : Event) (r : Report) (i : InBytes (es ▷ e)) (a : Among
   }
 
 -- WHY BYTES ARE DAMAGE
-pub damage-reasons : (es : Log) (e : Event) (r : Report) → InBytes (es ▷ e) → Among r (reportsTo stepOf es e) → r .number ≡ damageReport
-    → Damaged stepOf es e r
+pub damage-reasons : (es : Log) (e : Event) (r : Report) → InBytes (es ▷ e) → Among r (reportsTo ours es e) → r .number ≡ damageReport
+    → Damaged ours es e r
 damage-reasons es e r i a n = reasons es e r i a n

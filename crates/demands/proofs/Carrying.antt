@@ -37,7 +37,8 @@ use Rattle.talk.specs.declared.Request.the-variants.{Ordinary, Stop, OwnTiming,
 use Rattle.talk.specs.declared.Part.{Part}
 use Rattle.talk.specs.declared.Part.the-variants.{Target, Data}
 use Rattle.talk.specs.declared.Message.{Message}
-use Rattle.talk.proofs.Frames.{endsIn, isMessage, message-reads}
+use Rattle.talk.specs.Messages.{endsIn, isMessage}
+use Rattle.talk.proofs.Frames.{message-reads}
 use Rattle.demands.specs.Sessions.{same, stops, resets, retimes, codesIn}
 
 -- ---- what is said

@@ -24,9 +24,8 @@ use Rattle.reports.specs.declared.Report.{Report}
 use Rattle.reports.specs.declared.Run.{Run}
 use Rattle.link.specs.Handling.{passed, shut, begun}
 use Rattle.link.specs.declared.Link.{Link}
-use Rattle.link.proofs.Three.{tells, passedTells, shutTells, actedTells, handledTells}
+use Rattle.link.specs.Telling.{tells, passedTells, shutTells, actedTells, handledTells}
 use Rattle.link.proofs.Long.{Long, fresh-long, step-long}
-use Rattle.link.specs.Stepping.{stepOf}
 use Rattle.demands.specs.Logs.{Log, none, _▷_, numberAfter, takenOf}
 use Rattle.demands.specs.Histories.{after, reportsTo, Says, Among, Tells}
 use Rattle.demands.specs.Endings.{Starter}
@@ -35,6 +34,7 @@ use Rattle.demands.proofs.Going.{never-starting}
 use Rattle.demands.proofs.Finding.{says-speaks, tells-says, tells-left, tells-right, move-tells, EachOf, move-each, reports-made, taken-by-report}
 use Rattle.demands.proofs.Passing.{Waited, Idled, Over, Leaves, over, idle, up, same, passed-leaves, passed-each, waited-tells, idled-tells, over-tells}
 use Rattle.demands.proofs.Acting.{Misses, shut-each, starting-tells, connected-tells, slow-makes, slow-not-idle, fast-makes, fast-not-idle, fast-wrong-low, byte-each, byte-tells, byte-down}
+use Rattle.demands.specs.Ours.{ours}
 
 -- A, W or D
 abbrev pub Closer : Event → Type 0
@@ -313,22 +313,22 @@ module _ (l : Link) (e : Event) (g : Long (l .phase)) where
   outside-made d k = by-acting outsideReport noReason Byte k (byte-tells r e (l .mark) outsideReport noReason down refl (byte-down (r .phase) (e .side) (e .value) (l .mark) (e .start) d))
 
 -- ---- behind events
-pub long-of : (es : Log) → Long (after stepOf es .link .phase)
+pub long-of : (es : Log) → Long (after ours es .link .phase)
 unfolding after
 long-of none = fresh-long
-long-of (es ▷ e) = step-long (after stepOf es .link) (after stepOf es .counts) e (long-of es)
+long-of (es ▷ e) = step-long (after ours es .link) (after ours es .counts) e (long-of es)
 
 module _ (es : Log) (e : Event) where
   abbrev here : Link
-  here = after stepOf es .link
+  here = after ours es .link
 
   abbrev pub CauseAt : ℕ → ℕ → Type 0
   CauseAt = Cause (here .phase) (leftBy here e .phase) (here .mark) e
 
-  cause-at : (x : Report) → Among x (reportsTo stepOf es e) → CauseAt (x .number) (x .reason)
+  cause-at : (x : Report) → Among x (reportsTo ours es e) → CauseAt (x .number) (x .reason)
   cause-at x i = cause-each here e (long-of es) x (subst (Among x) (reports-made es e (taken-by-report es e x i)) i)
 
-  pub made-at : (number reason : ℕ) → numberAfter (takenOf es) e ≡ taken → Tells number reason (handledTells here e) → Tells number reason (reportsTo stepOf es e)
+  pub made-at : (number reason : ℕ) → numberAfter (takenOf es) e ≡ taken → Tells number reason (handledTells here e) → Tells number reason (reportsTo ours es e)
   made-at number reason n t = subst (Tells number reason) (sym (reports-made es e n)) t
 
   pub left-at : Leaves (here .phase) (here .mark) (e .start) (leftBy here e .phase)
@@ -339,7 +339,7 @@ module _ (es : Log) (e : Event) where
     pub number-is : numberAfter (takenOf es) e ≡ taken
     pub cause : CauseAt number reason
 
-  pub tells-caused : (number reason : ℕ) → Tells number reason (reportsTo stepOf es e) → Caused number reason
+  pub tells-caused : (number reason : ℕ) → Tells number reason (reportsTo ours es e) → Caused number reason
   tells-caused number reason t = record {
     number-is = taken-by-report es e (t .report) (t .made);
     cause = subst (λ (k : ℕ). CauseAt number k) (t .reason-is) (subst (λ (n : ℕ). CauseAt n (t .report .reason)) (t .number-is) (cause-at (t .report) (t .made)));
@@ -350,13 +350,13 @@ module _ (es : Log) (e : Event) where
     pub reason : ℕ
     pub caused : Caused number reason
 
-  pub says-caused : (number : ℕ) → Says number (reportsTo stepOf es e) → Spoken number
+  pub says-caused : (number : ℕ) → Says number (reportsTo ours es e) → Spoken number
   says-caused number s =
-      let x = says-speaks number (reportsTo stepOf es e) s in
+      let x = says-speaks number (reportsTo ours es e) s in
       record {
         reason = x .report .reason;
         caused = tells-caused number (x .report .reason) (record { report = x .report; made = x .made; number-is = x .number-is; reason-is = refl });
       }
 
-  pub says-made : (number reason : ℕ) → numberAfter (takenOf es) e ≡ taken → Tells number reason (handledTells here e) → Says number (reportsTo stepOf es e)
-  says-made number reason n t = tells-says number reason (reportsTo stepOf es e) (made-at number reason n t)
+  pub says-made : (number reason : ℕ) → numberAfter (takenOf es) e ≡ taken → Tells number reason (handledTells here e) → Says number (reportsTo ours es e)
+  says-made number reason n t = tells-says number reason (reportsTo ours es e) (made-at number reason n t)

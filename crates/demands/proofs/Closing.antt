@@ -20,8 +20,7 @@ use Rattle.reports.specs.Reporting.{reportOf, told, moved}
 use Rattle.reports.specs.declared.Report.{Report}
 use Rattle.reports.specs.declared.Run.{Run}
 use Rattle.link.specs.Handling.{shut}
-use Rattle.link.proofs.Three.{tells, shutTells}
-use Rattle.link.specs.Stepping.{stepOf}
+use Rattle.link.specs.Telling.{tells, shutTells}
 use Rattle.demands.specs.Logs.{Log, _▷_, heardIn}
 use Rattle.demands.specs.Histories.{after, isAmong}
 use Rattle.demands.specs.Sessions.{Talk, talkAfter, Session}
@@ -30,6 +29,7 @@ use Rattle.demands.proofs.Tiling.{moved-phase}
 use Rattle.demands.proofs.Saying.{Each, each-none, each-one, each-both}
 use Rattle.demands.proofs.Going.{At, SpeaksOn, at-more, never-starting, withReply, Told, talked, plain, Passes, up, gone, rests}
 use Rattle.demands.proofs.Going.{damage-ends, goes-down, down-rests, says-first, says-second, says-none, talked-both, next}
+use Rattle.demands.specs.Ours.{ours}
 
 -- ---- no link is connected behind A, W or D
 only-down : (st : State) → isOpen st ≡ false → isStarting st ≡ false → isQuiet st ≡ false → isConnected st ≡ false
@@ -56,7 +56,7 @@ shut-leaves r reason =
 module _ (es : Log) (e : Event) (all : List Report) where
   pub data Ends (t : Talk) (rs : List Report) (r : Run) : Type 0 where
     still-up : isAmong downReport rs ≡ false → Each (Told es e all t) rs
-        → (Session stepOf (es ▷ e) (talked es e all t rs) → after stepOf (es ▷ e) .link .named ≡ r .named
+        → (Session ours (es ▷ e) (talked es e all t rs) → after ours (es ▷ e) .link .named ≡ r .named
         → At (es ▷ e) (talked es e all t rs) (r .phase) (r .named) (r .heard)) → Ends t rs r
     over : isAmong downReport rs ≡ true → Each (Told es e all t) rs → isConnected (r .phase .state) ≡ false → Ends t rs r
 
@@ -70,7 +70,7 @@ module _ (es : Log) (e : Event) (all : List Report) where
       on (still-up k h b) =
           let p = talked-both es e all t reply rs ss q in
           still-up (says-none es e all rs ss n k) (each-both (Told es e all t) rs ss f h)
-          (λ v n. subst (λ (u : Talk). At (es ▷ e) u (s .phase) (s .named) (s .heard)) (sym p) (b (subst (Session stepOf (es ▷ e)) p v) n))
+          (λ v n. subst (λ (u : Talk). At (es ▷ e) u (s .phase) (s .named) (s .heard)) (sym p) (b (subst (Session ours (es ▷ e)) p v) n))
       on (over k h c) = over (says-second es e all rs ss k) (each-both (Told es e all t) rs ss f h) c
   behind t rs ss r s (gone n f q) g d =
       let x = d q in

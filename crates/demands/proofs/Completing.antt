@@ -32,7 +32,8 @@ use Rattle.reports.specs.declared.Report.{Report}
 use Rattle.reports.specs.declared.Run.{Run}
 use Rattle.link.specs.Handling.{passed, shut, hearing, byteHeard, actedBy, acted, begun, handled}
 use Rattle.link.specs.declared.Link.{Link}
-use Rattle.link.proofs.Three.{tells, passedTells, shutTells, byteTells, actedTells, handledTells, three-enough}
+use Rattle.link.specs.Telling.{tells, passedTells, shutTells, byteTells, actedTells, handledTells}
+use Rattle.link.proofs.Three.{three-enough}
 use Rattle.demands.specs.Histories.{isAmong, Says}
 use Rattle.demands.proofs.Entering.{In, Open, passed-in, passed-open, byte-starts, start-ends, start-three}
 

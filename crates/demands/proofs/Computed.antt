@@ -1,32 +1,35 @@
--- What our step and the wrong programs of document 01 make of some events: antt computes it. The events are such as the right link takes; behind
--- document 01's example stands a request for new timing and its reply, where the accident happened.
+-- What our link and the wrong programs of document 01 make of some events: antt computes it. The events are such as the right link takes; behind
+-- document 01's example stands a request for new timing and its reply, where the accident happened. Of the link that reports each byte as outside nothing is
+-- computed here: demand 3 passes it behind every history (Outside.antt), and demand 2 shuts it out whatever the events (Shut.antt).
 -- Assumes nothing.
 use Prim.Native.Nat.{ℕ, _+_}
 use mathlib.Core.Bool.{Bool, true, false, _&&_}
 use mathlib.Core.List.{List, [], _∷_}
 use mathlib.Core.Path.{_≡_, refl, ap}
-use borrow.Author.Tests.{eq-eqb}
-use lib.Dec.{eqb}
+use mathlib.Core.Logic.{inl}
+use borrow.Author.Tests.{eq-eqb, eqb-true, lt-ltb}
+use lib.Dec.{eqb, ltb}
 use lib.ListN.{length}
 use Rattle.base.specs.Sums.{countSum, byteSum}
 use Rattle.base.specs.Numbers.{taken}
-use Rattle.base.specs.Reports.{frameReport, connectedReport}
+use Rattle.base.specs.Choice.{if_then_else_}
+use Rattle.base.specs.Reports.{frameReport, connectedReport, failedReport, windowOver}
 use Rattle.units.specs.Units.{micros}
 use Rattle.keys.specs.Keys.{goodPair, lengthInFormat, extraLength, noAddresses, withAddresses, isExtended, takesForm}
 use Rattle.timing.specs.Timing.{setOf, minOf, p3MaxOf, p2Half, p2MaxOf, windowsBy, isBelow, isAllowed, decodedOf, sameWindows, isPassed, isUnlimited}
 use Rattle.frame.specs.Layout.{formatForm}
 use Rattle.events.specs.Events.{isByte, isOther, isNobody, isTester, isUnit, sameSide, marks, isUnknown, isTooLate, isOutOfOrder, refusal}
-use Rattle.events.specs.declared.Kind.the-variants.{Tick}
+use Rattle.events.specs.declared.Kind.the-variants.{WakeUp, Tick}
 use Rattle.events.specs.declared.Side.{Side}
 use Rattle.events.specs.declared.Side.the-variants.{Tester, Unit, Nobody}
 use Rattle.events.specs.declared.Event.{Event}
 use Rattle.starts.specs.Starts.{dueAt, roleAt, isOpening, isPairOne, isPairTwo, isRequestEnd, isEnding, originOf, isReplyFormat, fits, isFrom, isEarly}
-use Rattle.starts.specs.Starts.{judged, isOver, afterFormat, nextStage, isLast, sumAfter, onward, fastStart, noStart}
+use Rattle.starts.specs.Starts.{judged, isOver, afterFormat, nextStage, isLast, sumAfter, onward, slowStart, fastStart, noStart, complement}
 use Rattle.talk.specs.Talk.{isNever, isFirst, testerTurn, isStray, isHasty, unitTurn, turnReason, isModeOne, hasExtra, placeAnnounced, headReason, firstReason}
 use Rattle.talk.specs.Talk.{afterAddresses, partAfterFormat, begun as begunMessage, laterReason, isSum, withSeven, afterData, withData, grown, isExactly}
 use Rattle.talk.specs.Talk.{asksCodes, requestOf, isEffective, codesIn, ifAllowed, windowsFor, windowsAfter, spent, requestAfter, isStopped}
 use Rattle.phases.specs.Phases.{isStarting, isQuiet, isHeld, isOpen, down, starting, connected, talking, holding, damaged, settled, timed, asked, answered, framed}
-use Rattle.moves.specs.Moves.{isSilent, afterSilence, afterP2, afterP3, sinceOrigin, afterWindow, closing, leaving, isIdle, startingSlow, isGoodLow}
+use Rattle.moves.specs.Moves.{isSilent, lossReason, afterSilence, afterP2, afterP3, sinceOrigin, afterWindow, closing, leaving, isIdle, startingSlow, isGoodLow}
 use Rattle.moves.specs.Moves.{startingFast, startByte, reasonAtFirst, firstByte, laterByte, afterByte, afterStop}
 use Rattle.reports.specs.Reporting.{namesBytes, reportOf, appended, listed, told, moved}
 use Rattle.reports.specs.Counting.{zeroCounts, isFull, countedOne, countedAll, countedByte, countedEvent}
@@ -35,10 +38,12 @@ use Rattle.reports.specs.declared.Counts.{Counts}
 use Rattle.link.specs.Handling.{freshLink, passed, shut, byteHeard, acted, begun, handled, markAfter, linkAfter}
 use Rattle.link.specs.Stepping.{numberOf, refusedBy, takenBy, answerOf, countsAfter, stepOf}
 use Rattle.demands.specs.Logs.{Log, none, _▷_, heardOf, countOf, clockOf, numberAfter, takenOf, heardIn}
-use Rattle.demands.specs.Histories.{Step, ourStep, after, reportsTo, reportsOf, isAmong}
-use Rattle.demands.specs.Accounts.{InTurn, reportsIn, countsOf, Accounted}
-use Rattle.demands.proofs.Example.{byteFrom, fastEvents, fastLast}
-use Rattle.demands.specs.Wrong.{outside, unchanged, idling, inventing, behind, twice}
+use Rattle.demands.specs.Histories.{Machine, after, reportsTo, reportsOf, isAmong, Among, first, later}
+use Rattle.demands.specs.Accounts.{InTurn, reportsIn, countsOf, namedIn, heldIn, Accounted}
+use Rattle.demands.specs.Orders.{ruleOf, InOrder, NamesFailed}
+use Rattle.demands.proofs.Example.{byteFrom, address, fastEvents, fastLast}
+use Rattle.demands.specs.Wrong.{unchanged, idling, inventing, behind, twice, disordered, repeating, moving, shifting}
+use Rattle.demands.specs.OurLink.{ourLink}
 
 -- ---- some events
 -- a tick, and two bytes that a fresh link hears
@@ -59,7 +64,31 @@ retiming =
     bytesFrom Unit 500_160 (0x02 ∷ 0xC3 ∷ 0x03 ∷ 0xC8 ∷ [])
     (bytesFrom Tester 466_520 (0x07 ∷ 0x83 ∷ 0x03 ∷ 0x32 ∷ 0x02 ∷ 0x6E ∷ 0x14 ∷ 0x0C ∷ 0x4F ∷ []) (fastEvents ▷ fastLast))
 
--- ---- parts of demand 3, as tests
+-- behind document 01's initialization, a message of which one byte is heard, and a wake-up too soon behind it
+abbrev pub cutOff : Log
+cutOff = fastEvents ▷ fastLast ▷ byteFrom Tester 0x01 466_520
+
+abbrev pub tooSoon : Event
+tooSoon = record { start = micros 470_000; end = micros 495_000; kind = WakeUp; side = Nobody; value = 0 }
+
+-- document 01's example: a request that is not answered, and a tick when P2 max has passed
+abbrev pub asking : Log
+asking = bytesFrom Tester 466_520 (0x01 ∷ 0x3E ∷ 0x3F ∷ []) (fastEvents ▷ fastLast)
+
+abbrev pub tooLate : Event
+tooLate = record { start = micros 529_401; end = micros 529_401; kind = Tick; side = Nobody; value = 0 }
+
+-- a slow start that has heard 55; then KB1 too late; or else, too late for KB1 too, a wake-up that is low too long
+abbrev pub addressed : Log
+addressed = none ▷ address 0x33 300_000 2_300_000 ▷ byteFrom Unit 0x55 2_360_000
+
+abbrev pub unheard : Event
+unheard = byteFrom Unit 0x00 2_400_000
+
+abbrev pub lowWrong : Event
+lowWrong = record { start = micros 2_660_960; end = micros 2_700_000; kind = WakeUp; side = Nobody; value = 0 }
+
+-- ---- parts of the demands, as tests
 abbrev pub isInTurn : ℕ → List Report → Bool
 isInTurn n [] = true
 isInTurn n (r ∷ rs) = eqb (r .first) n && isInTurn (n + r .bytes) rs
@@ -68,20 +97,51 @@ in-turn : (n : ℕ) (rs : List Report) → InTurn n rs → isInTurn n rs ≡ tru
 in-turn n [] t = refl
 in-turn n (r ∷ rs) (InTurn.behind p t) = rw (eq-eqb (r .first) n p, in-turn (n + r .bytes) rs t)
 
-abbrev pub fair : Step → Log → Bool
-fair step es =
-    isInTurn 0 (reportsOf step es)
-    && eqb (after step es .counts .heard) (length (heardIn es))
-    && eqb (after step es .counts .frames) (reportsIn frameReport (reportsOf step es))
+abbrev pub fair : Machine → Log → Bool
+fair m es =
+    isInTurn 0 (reportsOf m es)
+    && eqb (after m es .counts .heard) (length (heardIn es))
+    && eqb (after m es .counts .frames) (reportsIn frameReport (reportsOf m es))
 
-pub is-fair : (step : Step) (es : Log) → Accounted step es → fair step es ≡ true
+pub is-fair : (m : Machine) (es : Log) → Accounted m es → fair m es ≡ true
 unfolding countsOf
-is-fair step es a =
+is-fair m es a =
     rw (
-      in-turn 0 (reportsOf step es) (a .indexes),
-      eq-eqb (after step es .counts .heard) (length (heardIn es)) (ap (λ (c : Counts). c .heard) (a .counts)),
-      eq-eqb (after step es .counts .frames) (reportsIn frameReport (reportsOf step es)) (ap (λ (c : Counts). c .frames) (a .counts)),
+      in-turn 0 (reportsOf m es) (a .indexes),
+      eq-eqb (after m es .counts .heard) (length (heardIn es)) (ap (λ (c : Counts). c .heard) (a .counts)),
+      eq-eqb (after m es .counts .frames) (reportsIn frameReport (reportsOf m es)) (ap (λ (c : Counts). c .frames) (a .counts)),
     )
+
+abbrev pub isInOrder : ℕ → List Report → Bool
+isInOrder before [] = true
+isInOrder before (r ∷ rs) = ltb before (ruleOf (r .number) (r .reason)) && isInOrder (ruleOf (r .number) (r .reason)) rs
+
+pub in-order : (before : ℕ) (rs : List Report) → InOrder before rs → isInOrder before rs ≡ true
+in-order before [] o = refl
+in-order before (r ∷ rs) (InOrder.next p o) =
+    rw (lt-ltb before (ruleOf (r .number) (r .reason)) p, in-order (ruleOf (r .number) (r .reason)) rs o)
+
+-- reports 4 with reason 1 name so many bytes
+abbrev pub overAll : ℕ → List Report → Bool
+overAll held [] = true
+overAll held (r ∷ rs) = (if eqb (r .number) failedReport && eqb (r .reason) windowOver then eqb (r .bytes) held else true) && overAll held rs
+
+abbrev pub overRight : Machine → Log → Event → Bool
+overRight m es e = overAll (heldIn m es) (reportsTo m es e)
+
+over-all : (held : ℕ) (rs : List Report) → ((r : Report) → Among r rs → r .number ≡ failedReport → NamesFailed held r) → overAll held rs ≡ true
+over-all held [] f = refl
+over-all held (r ∷ rs) f = rw (here (eqb (r .number) failedReport) (eqb (r .reason) windowOver) refl refl, over-all held rs (λ q i. f q (later i)))
+  where
+    here : (x y : Bool) → eqb (r .number) failedReport ≡ x → eqb (r .reason) windowOver ≡ y → (if x && y then eqb (r .bytes) held else true) ≡ true
+    here true true p q =
+        eq-eqb (r .bytes) held (f r first (eqb-true (r .number) failedReport p) .ended (inl (eqb-true (r .reason) windowOver q)))
+    here true false p q = refl
+    here false y p q = refl
+
+pub named-by : (m : Machine) (es : Log) (e : Event)
+    → ((r : Report) → Among r (reportsTo m es e) → r .number ≡ failedReport → NamesFailed (heldIn m es) r) → overRight m es e ≡ true
+named-by m es e f = over-all (heldIn m es) (reportsTo m es e) f
 
 -- ---- what the wrong programs make of the events: one computation
 pub record Computed : Type 0 where
@@ -90,12 +150,16 @@ pub record Computed : Type 0 where
   pub of-inventing : fair inventing (none ▷ tick) ≡ false
   pub of-behind : fair behind retiming ≡ false
   pub of-twice : fair twice retiming ≡ false
-  -- "though demand 3 would pass it"
-  pub of-outside : fair outside retiming ≡ true
-  -- and of our own step, by which the gate's edits of it (must-fail/) are seen refused first
-  pub ours-taken : after ourStep retiming .link .taken ≡ 26
-  pub ours-fair : fair ourStep retiming ≡ true
-  pub ours-connects : isAmong connectedReport (reportsTo ourStep fastEvents fastLast) ≡ true
+  pub of-disordered : isInOrder 0 (reportsTo disordered cutOff tooSoon) ≡ false
+  pub of-repeating : isInOrder 0 (reportsTo repeating asking tooLate) ≡ false
+  pub of-moving : isInOrder 0 (reportsTo moving addressed unheard) ≡ false
+  pub of-shifting : overRight shifting addressed lowWrong ≡ false
+  -- and of our own link, by which the gate's edits of it (must-fail/) are seen refused first
+  pub ours-taken : after ourLink retiming .link .taken ≡ 26
+  pub ours-fair : fair ourLink retiming ≡ true
+  pub ours-connects : isAmong connectedReport (reportsTo ourLink fastEvents fastLast) ≡ true
+  pub ours-cut-off : isInOrder 0 (reportsTo ourLink cutOff tooSoon) ≡ true
+  pub ours-over : overRight ourLink addressed lowWrong ≡ true
 
 pub computed : Computed
 unfolding
@@ -108,5 +172,5 @@ unfolding
     takesForm isPassed isUnlimited reasonAtFirst firstByte laterByte firstReason turnReason testerTurn unitTurn isStray isHasty isNever headReason isModeOne
     formatForm placeAnnounced hasExtra begunMessage partAfterFormat afterAddresses laterReason isSum grown withData withSeven afterData holding talking
     framed asked answered timed settled damaged requestOf isExactly asksCodes windowsAfter isEffective windowsFor codesIn ifAllowed decodedOf isAllowed
-    windowsBy minOf p2MaxOf p2Half p3MaxOf isBelow spent requestAfter sameWindows
-computed = record { of-unchanged = refl; of-idling = refl; of-inventing = refl; of-behind = refl; of-twice = refl; of-outside = refl; ours-taken = refl; ours-fair = refl; ours-connects = refl }
+    windowsBy minOf p2MaxOf p2Half p3MaxOf isBelow spent requestAfter sameWindows lossReason slowStart complement ruleOf heldIn namedIn
+computed = record { of-unchanged = refl; of-idling = refl; of-inventing = refl; of-behind = refl; of-twice = refl; of-disordered = refl; of-repeating = refl; of-moving = refl; of-shifting = refl; ours-taken = refl; ours-fair = refl; ours-connects = refl; ours-cut-off = refl; ours-over = refl }

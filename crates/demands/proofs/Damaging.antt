@@ -29,10 +29,9 @@ use Rattle.reports.specs.Reporting.{namesBytes, reportOf, moved}
 use Rattle.reports.specs.declared.Report.{Report}
 use Rattle.reports.specs.declared.Run.{Run}
 use Rattle.link.specs.Handling.{passed, shut, begun}
-use Rattle.link.specs.Stepping.{stepOf}
 use Rattle.link.specs.declared.Link.{Link}
 use Rattle.link.proofs.Long.{Long}
-use Rattle.link.proofs.Three.{tells, passedTells, shutTells, actedTells, handledTells}
+use Rattle.link.specs.Telling.{tells, passedTells, shutTells, actedTells, handledTells}
 use Rattle.listing.specs.Listing.{heldOf}
 use Rattle.demands.specs.Logs.{Log, heardIn, numberAfter, takenOf, InBytes}
 use Rattle.demands.specs.Histories.{after, reportsTo, Says, Among, Tells}
@@ -50,6 +49,7 @@ use Rattle.demands.proofs.Causes.{Closer, leftBy, long-of, by-acting, s
 use Rattle.demands.proofs.Leaving.{quiet-holds, same-gap}
 use Rattle.demands.proofs.Elapsing.{leftOf, left-is, silence-open}
 use Rattle.demands.proofs.Opening.{silent-is, open-holds}
+use Rattle.demands.specs.Ours.{ours}
 
 -- ---- what is open behind passing time was open before it, and nothing has happened
 shrinks : (b : Bool) (number reason : ℕ) (q p : Phase) → isOpen (q .state) ≡ false → isOpen ((if b then makes number reason q else still p) .phase .state) ≡ true
@@ -306,14 +306,14 @@ module _ (l : Link) (e : Event) (g : Long (l .phase)) where
 -- ---- behind events
 module _ (es : Log) (e : Event) where
   abbrev here : Link
-  here = after stepOf es .link
+  here = after ours es .link
 
-  pub damage-at : (x : Report) → Among x (reportsTo stepOf es e) → x .number ≡ damageReport → Loses here e x
+  pub damage-at : (x : Report) → Among x (reportsTo ours es e) → x .number ≡ damageReport → Loses here e x
   damage-at x i n = all-loses here e (long-of es) x (subst (Among x) (reports-made es e (taken-by-report es e x i)) i) n
 
 -- IT NAMES ALL THAT IS HELD
-pub damage-names : (es : Log) (e : Event) (r : Report) → Among r (reportsTo stepOf es e) → r .number ≡ damageReport
-    → (r .bytes ≡ heldIn stepOf es) × (r .first + r .bytes ≡ length (heardIn es))
+pub damage-names : (es : Log) (e : Event) (r : Report) → Among r (reportsTo ours es e) → r .number ≡ damageReport
+    → (r .bytes ≡ heldIn ours es) × (r .first + r .bytes ≡ length (heardIn es))
 unfolding heldOf
 damage-names es e r i n =
     let d = damage-at es e r i n in
@@ -324,12 +324,12 @@ damage-names es e r i n =
     (omega arith, omega (arith, b .heard, b .named))
 
 -- IT IS MADE exactly where what is held has ended or is closed
-pub damage-exactly : (es : Log) (e : Event) (t : Talk) → InBytes es → Session stepOf es t
-    → Says damageReport (reportsTo stepOf es e)
-    ↔ ((numberAfter (takenOf es) e ≡ taken) × (0 < heldIn stepOf es) × ((20_000 < gapBefore (takenOf es) e .0) ⊎ Starter e ⊎ (e .kind ≡ Drop)))
+pub damage-exactly : (es : Log) (e : Event) (t : Talk) → InBytes es → Session ours es t
+    → Says damageReport (reportsTo ours es e)
+    ↔ ((numberAfter (takenOf es) e ≡ taken) × (0 < heldIn ours es) × ((20_000 < gapBefore (takenOf es) e .0) ⊎ Starter e ⊎ (e .kind ≡ Drop)))
 damage-exactly es e t b s = (
   λ x.
-      let y = says-speaks damageReport (reportsTo stepOf es e) x in
+      let y = says-speaks damageReport (reportsTo ours es e) x in
       let d = damage-at es e (y .report) (y .made) (y .number-is) in
       (taken-by-report es e (y .report) (y .made), open-holds es (d .open-there), ⊎-elim (λ h. inl (silent .0 h)) (λ c. inr c) (d .why)),
   λ x.
@@ -338,7 +338,7 @@ damage-exactly es e t b s = (
 )
   where
     l : Link
-    l = after stepOf es .link
+    l = after ours es .link
 
     gap : Micros
     gap = gapOf (l .mark) (e .start)
@@ -349,7 +349,7 @@ damage-exactly es e t b s = (
       λ h. silent-is gap .1 (subst (λ (g : Micros). 20_000 < g .0) (sym (same-gap es e t b s)) h),
     )
 
-    opened : 0 < heldIn stepOf es → isOpen (l .phase .state) ≡ true
+    opened : 0 < heldIn ours es → isOpen (l .phase .state) ≡ true
     opened h =
         open-or (isOpen (l .phase .state) ≡ true) (l .phase .state) (session-link es t b s .connected) (λ o. o)
         (λ q. let z = quiet-holds es e t b s q in absurd (omega arith))

@@ -1,19 +1,19 @@
--- DEMAND 1 HOLDS of our step. Its statements are in specs/DemandOne.antt; the work is in the files cited here.
+-- DEMAND 1 HOLDS of our link. Its statements are in specs/DemandOne.antt; the work is in the files cited here.
 -- Assumes nothing.
 use mathlib.Core.Path.{_≡_}
 use Rattle.base.specs.Numbers.{taken}
-use Rattle.demands.specs.Histories.{ourStep, after}
-use Rattle.demands.proofs.Basics as basics
+use Rattle.demands.specs.Histories.{after}
 use Rattle.demands.proofs.Refusing as refusing
 use Rattle.demands.proofs.Computed.{retiming, computed}
 use Rattle.demands.proofs.Answering as answering
-use Rattle.link.specs.Stepping.{stepOf}
 use Rattle.demands.specs.DemandOne.{DemandOne}
+use Rattle.demands.specs.Ours.{ours}
+use Rattle.demands.specs.OurLink.{ourLink}
 
--- of the step that `link::step` promises
-proved : DemandOne stepOf
+-- of the link whose step `link::step` promises
+proved : DemandOne ours
 proved = record {
-  numbered = answering.numbered;
+  numbered = answering.numbered-behind;
   refused-as-before = answering.refused-as-before;
   fresh-takes = answering.fresh-takes;
   some-event-taken = answering.some-event-taken;
@@ -31,9 +31,9 @@ proved = record {
   windows-zeros = refusing.encode-zeros;
 }
 
-pub demand-one : DemandOne ourStep
+pub demand-one : DemandOne ourLink
 demand-one = proved
 
 -- And a fresh link takes all 26 of these events: the initialization of document 01's example, a request for new timing, and its reply.
-pub example-taken : after ourStep retiming .link .taken ≡ 26
+pub example-taken : after ourLink retiming .link .taken ≡ 26
 example-taken = computed .ours-taken

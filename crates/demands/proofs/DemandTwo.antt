@@ -1,4 +1,4 @@
--- DEMAND 2 HOLDS of our step. Its statements are in specs/DemandTwo.antt; the work is in the files cited here.
+-- DEMAND 2 HOLDS of our link. Its statements are in specs/DemandTwo.antt; the work is in the files cited here.
 -- Assumes nothing.
 use Rattle.keys.proofs.Eighteen.{good-pairs}
 use Rattle.timing.proofs.P2Table.{rule}
@@ -6,23 +6,23 @@ use Rattle.timing.proofs.RoundTrip.{codes-back, windows-back, codes-exactly, no
 use Rattle.timing.proofs.Sets.{normal-codes, extended-codes}
 use Rattle.frame.proofs.RoundTrip.{built-reads-back}
 use Rattle.frame.proofs.WellRead.{reads-exactly, read-sums-up}
-use Rattle.talk.proofs.Frames.{message-reads}
-use Rattle.demands.specs.Histories.{ourStep}
+use Rattle.demands.specs.DemandTwo.{DemandTwo, Foundation}
+use Rattle.demands.specs.Ours.{ours}
+use Rattle.demands.specs.OurLink.{ourLink}
+use Rattle.demands.proofs.Order as order
+use Rattle.demands.proofs.FailedNames as failedNames
+use Rattle.demands.proofs.NoneHeld as noneHeld
 use Rattle.demands.proofs.Leaving as leaving
 use Rattle.demands.proofs.Each as each
 use Rattle.demands.proofs.Failing as failing
 use Rattle.demands.proofs.Exactly as exactly
 use Rattle.demands.proofs.Initializing as initializing
-use Rattle.demands.proofs.Becomes as becomes
 use Rattle.demands.proofs.Names as names
-use Rattle.demands.proofs.Session as session
 use Rattle.demands.proofs.Opening as opening
 use Rattle.demands.proofs.Beginning as beginning
 use Rattle.demands.proofs.Damaging as damaging
 use Rattle.demands.proofs.Breaking as breaking
 use Rattle.demands.proofs.Reporting as reporting
-use Rattle.link.specs.Stepping.{stepOf}
-use Rattle.demands.specs.DemandTwo.{DemandTwo, Foundation}
 
 foundation : Foundation
 foundation = record {
@@ -30,7 +30,6 @@ foundation = record {
   built = built-reads-back;
   read = reads-exactly;
   sums = read-sums-up;
-  messages = message-reads;
   p2max = rule;
   codes = codes-back;
   windows = windows-back;
@@ -40,15 +39,12 @@ foundation = record {
   extended = extended-codes;
 }
 
--- of the step that `link::step` promises
-proved : DemandTwo stepOf
+-- of the link whose step `link::step` promises
+proved : DemandTwo ours
 proved = record {
   foundation = foundation;
   connects-exactly = exactly.connects-exactly;
-  becomes-connected-exactly = becomes.becomes-connected-exactly;
   connects-names = names.connects-names;
-  session-exactly = session.session-exactly;
-  session-link = session.session-link;
   frames-read = reporting.frames-read;
   frames-exactly = opening.frames-exactly;
   turns-exactly = opening.turns-exactly;
@@ -63,14 +59,16 @@ proved = record {
   only-in-session = leaving.only-in-session;
   not-idle-exactly = leaving.not-idle-exactly;
   wrong-low-exactly = leaving.wrong-low-exactly;
-  starting-exactly = initializing.starting-exactly;
   fails-exactly = failing.fails-exactly;
   under-way = failing.under-way;
   closed-start-exactly = initializing.closed-start-exactly;
   never-else = failing.never-else;
   outside-exactly = initializing.outside-exactly;
+  none-held = noneHeld.none-held;
   each-formed = each.each-formed;
+  in-order = order.in-order;
+  failed-names = failedNames.failed-names;
 }
 
-pub demand-two : DemandTwo ourStep
+pub demand-two : DemandTwo ourLink
 demand-two = proved

@@ -48,9 +48,8 @@ use Rattle.reports.specs.Reporting.{namesBytes, reportOf, told, moved}
 use Rattle.reports.specs.declared.Report.{Report}
 use Rattle.reports.specs.declared.Run.{Run}
 use Rattle.link.specs.Handling.{freshLink, passed, shut, hearing, byteHeard, actedBy, acted, begun, handled, linkAfter}
-use Rattle.link.specs.Stepping.{stepOf}
 use Rattle.link.specs.declared.Link.{Link}
-use Rattle.link.proofs.Three.{tells, passedTells, shutTells, byteTells, actedTells, handledTells}
+use Rattle.link.specs.Telling.{tells, passedTells, shutTells, byteTells, actedTells, handledTells}
 use Rattle.demands.specs.Logs.{Log, none, _▷_, numberAfter, takenOf, InBytes}
 use Rattle.demands.specs.Histories.{after, reportsTo, Says, Among}
 use Rattle.demands.specs.Sessions.{SomeSession}
@@ -68,6 +67,7 @@ use Rattle.demands.proofs.Finding.{says-speaks, reports-made, taken-by-
 use Rattle.demands.proofs.Causes.{Fails, runs-out, closes, low, wrong, of-fail, was-starting, leftBy, left-at, says-caused}
 use Rattle.demands.proofs.Leaving.{wrong-low, mark-idle}
 use Rattle.demands.proofs.Initializing.{starting-exactly}
+use Rattle.demands.specs.Ours.{ours}
 
 -- ---- numbers that are one of several
 none-high : (x : ℕ) → (x ≡ noReplyReport) ⊎ (x ≡ downReport) ⊎ (x ≡ notIdleReport) → 5 < x
@@ -540,45 +540,45 @@ module _ (e : Event) where
       (acted-good (e .kind) s (l .mark) (omega arith) (g1 .ready))
 
 -- ---- behind any events
-few-heard : (es : Log) → after stepOf es .link .heard < greatest
+few-heard : (es : Log) → after ours es .link .heard < greatest
 few-heard es =
     let k = kept-of es in
     omega (arith, k .heard, k .few, k .bound)
 
-good-of : (es : Log) (e : Event) → Worded (after stepOf es .link .phase) → Good e (handled (after stepOf es .link) e) (handledTells (after stepOf es .link) e)
-good-of es e w = handled-good e (after stepOf es .link) (few-heard es) (kept-of es .holds) w
+good-of : (es : Log) (e : Event) → Worded (after ours es .link .phase) → Good e (handled (after ours es .link) e) (handledTells (after ours es .link) e)
+good-of es e w = handled-good e (after ours es .link) (few-heard es) (kept-of es .holds) w
 
-fresh-worded : Worded (after stepOf none .link .phase)
+fresh-worded : Worded (after ours none .link .phase)
 unfolding after freshLink down
 fresh-worded = tt
 
-worded-more : (es : Log) (e : Event) → Worded (after stepOf es .link .phase) → Worded (after stepOf (es ▷ e) .link .phase)
+worded-more : (es : Log) (e : Event) → Worded (after ours es .link .phase) → Worded (after ours (es ▷ e) .link .phase)
 unfolding linkAfter
 worded-more es e w = by-number (eqb (numberAfter (takenOf es) e) taken) refl
   where
-    by-number : (b : Bool) → eqb (numberAfter (takenOf es) e) taken ≡ b → Worded (after stepOf (es ▷ e) .link .phase)
+    by-number : (b : Bool) → eqb (numberAfter (takenOf es) e) taken ≡ b → Worded (after ours (es ▷ e) .link .phase)
     by-number true n =
         subst (λ (l : Link). Worded (l .phase)) (sym (link-taken es e (eqb-true (numberAfter (takenOf es) e) taken n))) (good-of es e w .ready .worded)
     by-number false n =
         subst (λ (l : Link). Worded (l .phase)) (sym (link-refused es e (eqb-false (numberAfter (takenOf es) e) taken n))) w
 
-worded-of : (es : Log) → Worded (after stepOf es .link .phase)
+worded-of : (es : Log) → Worded (after ours es .link .phase)
 worded-of none = fresh-worded
 worded-of (es ▷ e) = worded-more es e (worded-of es)
 
 -- EACH REPORT
-pub each-formed : (es : Log) (e : Event) (r : Report) → Among r (reportsTo stepOf es e) → Formed e r
+pub each-formed : (es : Log) (e : Event) (r : Report) → Among r (reportsTo ours es e) → Formed e r
 each-formed es e r i = good-of es e (worded-of es) .each r (subst (Among r) (reports-made es e (taken-by-report es e r i)) i)
 
 -- A REPORT 4 only in an initialization, or at a wake-up of a wrong low
-pub failed-only : (es : Log) (e : Event) → Says failedReport (reportsTo stepOf es e) → InStart stepOf es ⊎ WrongLow (takenOf es) e
+pub failed-only : (es : Log) (e : Event) → Says failedReport (reportsTo ours es e) → InStart ours es ⊎ WrongLow (takenOf es) e
 failed-only es e s = by-cause (of-fail _ _ _ e (says-caused es e failedReport s .caused .cause) refl)
   where
-    started : isStarting (leftBy (after stepOf es .link) e .phase .state) ≡ true → InStart stepOf es
+    started : isStarting (leftBy (after ours es .link) e .phase .state) ≡ true → InStart ours es
     started i = starting-exactly es .0 (was-starting _ _ (e .start) _ (left-at es e) i .0)
 
-    by-cause : {k : ℕ} → Fails (after stepOf es .link .phase) (leftBy (after stepOf es .link) e .phase) (after stepOf es .link .mark) e k
-        → InStart stepOf es ⊎ WrongLow (takenOf es) e
+    by-cause : {k : ℕ} → Fails (after ours es .link .phase) (leftBy (after ours es .link) e .phase) (after ours es .link .mark) e k
+        → InStart ours es ⊎ WrongLow (takenOf es) e
     by-cause (runs-out o) = inl (starting-exactly es .0 (o .0))
     by-cause (closes i c) = inl (started i)
     by-cause (low w i g) = inr (w, mark-idle es e .0 i, wrong-low e .0 g)
@@ -586,12 +586,12 @@ failed-only es e s = by-cause (of-fail _ _ _ e (says-caused es e failedReport s 
 
 -- REPORTS 1 AND 2 only in a session
 pub frames-only : (es : Log) (e : Event) → InBytes es
-    → Says frameReport (reportsTo stepOf es e) ⊎ Says damageReport (reportsTo stepOf es e) → SomeSession stepOf es
-frames-only es e b x = session-exactly es b .0 (by-state (isConnected (after stepOf es .link .phase .state)) refl)
+    → Says frameReport (reportsTo ours es e) ⊎ Says damageReport (reportsTo ours es e) → SomeSession ours es
+frames-only es e b x = session-exactly es b .0 (by-state (isConnected (after ours es .link .phase .state)) refl)
   where
-    by-state : (c : Bool) → isConnected (after stepOf es .link .phase .state) ≡ c → isConnected (after stepOf es .link .phase .state) ≡ true
+    by-state : (c : Bool) → isConnected (after ours es .link .phase .state) ≡ c → isConnected (after ours es .link .phase .state) ≡ true
     by-state true c = c
     by-state false c =
         let f = none-unconnected es e c in
-        ⊎-elim (λ s. let y = says-speaks frameReport (reportsTo stepOf es e) s in absurd (f (y .report) (y .made) .0 (y .number-is)))
-        (λ s. let y = says-speaks damageReport (reportsTo stepOf es e) s in absurd (f (y .report) (y .made) .1 (y .number-is))) x
+        ⊎-elim (λ s. let y = says-speaks frameReport (reportsTo ours es e) s in absurd (f (y .report) (y .made) .0 (y .number-is)))
+        (λ s. let y = says-speaks damageReport (reportsTo ours es e) s in absurd (f (y .report) (y .made) .1 (y .number-is))) x

@@ -25,7 +25,7 @@ use Rattle.moves.specs.declared.Move.{Move}
 use Rattle.reports.specs.Reporting.{namesBytes, told, withPhase, moved}
 use Rattle.reports.specs.declared.Run.{Run}
 use Rattle.link.specs.Handling.{passed, hearing, byteHeard}
-use Rattle.link.proofs.Three.{tells, byteTells}
+use Rattle.link.specs.Telling.{tells, byteTells}
 use Rattle.link.proofs.Long.{open-connected, quiet-connected}
 use Rattle.demands.proofs.Tiling.{moved-heard, moved-phase}
 use Rattle.demands.proofs.Passing.{Idled}

@@ -17,7 +17,7 @@ use Rattle.events.specs.declared.Kind.the-variants.{Address, WakeUp, Byte, Tick
 use Rattle.events.specs.declared.Event.{Event}
 use Rattle.reports.specs.Reporting.{listed}
 use Rattle.link.specs.Handling.{handled, linkAfter}
-use Rattle.link.specs.Stepping.{refusedBy, takenBy, stepOf}
+use Rattle.link.specs.Stepping.{refusedBy, takenBy}
 use Rattle.link.specs.declared.Link.{Link}
 use Rattle.link.specs.declared.Answer.{Answer}
 use Rattle.starts.specs.declared.Start.{Start}
@@ -29,15 +29,13 @@ use Rattle.demands.proofs.Numbering.{log-numbered}
 use Rattle.demands.proofs.Invariant.{timely}
 use Rattle.demands.proofs.Basics.{basics, answer-taken, answer-refused}
 use Rattle.demands.proofs.Completing.{Completes, says-completes, completes-says}
-use Rattle.demands.proofs.Running.{startOn, Starts, Runs, Done, Behind, Inv, inv-on, inv-fresh, Ends, ends-of, completes-of}
+use Rattle.demands.proofs.Running.{startOn, Starts, Done, runs-starts, Behind, Inv, inv-on, inv-fresh, Ends, ends-of, completes-of}
+use Rattle.demands.proofs.Waking.{runs-idle}
 use Rattle.demands.proofs.Slowly.{slow-done, done-slow}
 use Rattle.demands.proofs.Fastly.{fast-done, done-fast}
+use Rattle.demands.specs.Ours.{ours}
 
 -- ---- an initialization that ends on the log is a good one, and the other way round
-pub runs-starts : (m : Micros) (a : Event) (bs : Log) → Runs m a bs → Starts (a .kind) m a
-runs-starts m a none r = r
-runs-starts m a (bs ▷ b) r = runs-starts m a bs (r .0)
-
 module _ (log : Log) (e : Event) (x : Ends log e) where
   abbrev m : Micros
   m = markOf (x .before)
@@ -45,23 +43,22 @@ module _ (log : Log) (e : Event) (x : Ends log e) where
   abbrev made : Start
   made = startOn (x .start) (x .bytes)
 
-  connects-with : m .0 + 300_000 ≤ x .start .start .0
-      → SlowStart (x .start) (made .kb1) (made .kb2) (x .bytes ▷ e) ⊎ FastStart (x .start) (made .kb1) (made .kb2) (x .bytes ▷ e) → Connects log e
-  connects-with i g = record {
+  connects-with : SlowStart (x .start) (made .kb1) (made .kb2) (x .bytes ▷ e) ⊎ FastStart (x .start) (made .kb1) (made .kb2) (x .bytes ▷ e) → Connects log e
+  connects-with g = record {
     start = x .start;
     before = x .before;
     bytes = x .bytes;
     kb1 = made .kb1;
     kb2 = made .kb2;
     since = x .since;
-    idle = i;
+    idle = runs-idle m (x .start) (x .bytes) (x .done .0);
     last = x .last;
     good = g;
   }
 
   connects-by : (k : Kind) → x .start .kind ≡ k → Starts k m (x .start) → Connects log e
-  connects-by Address k s = let w = slow-done m (x .start) (x .bytes) e k (x .done) in connects-with (w .0) (inl (w .1))
-  connects-by WakeUp k s = let w = fast-done m (x .start) (x .bytes) e k (x .done) in connects-with (w .0) (inr (w .1))
+  connects-by Address k s = connects-with (inl (slow-done m (x .start) (x .bytes) e k (x .done)))
+  connects-by WakeUp k s = connects-with (inr (fast-done m (x .start) (x .bytes) e k (x .done)))
   connects-by Byte k s = absurd s
   connects-by Tick k s = absurd s
   connects-by Drop k s = absurd s
@@ -87,7 +84,7 @@ ended-by log e c = record {
 }
 
 -- ---- behind events
-pub behind : (es : Log) (e : Event) → numberAfter (takenOf es) e ≡ taken → Behind (after stepOf es .link) (takenOf es) e
+pub behind : (es : Log) (e : Event) → numberAfter (takenOf es) e ≡ taken → Behind (after ours es .link) (takenOf es) e
 behind es e q =
     let b = basics es in
     let t = timely (takenOf es) e q in
@@ -102,13 +99,13 @@ behind es e q =
 -- the link and the events taken, behind one event more
 module _ (es : Log) (e : Event) where
   abbrev l : Link
-  l = after stepOf es .link
+  l = after ours es .link
 
-  pub link-taken : numberAfter (takenOf es) e ≡ taken → after stepOf (es ▷ e) .link ≡ linkAfter l e (handled l e)
+  pub link-taken : numberAfter (takenOf es) e ≡ taken → after ours (es ▷ e) .link ≡ linkAfter l e (handled l e)
   unfolding after takenBy
   link-taken q = ap (λ (a : Answer). a .link) (answer-taken es e q)
 
-  pub link-refused : (numberAfter (takenOf es) e ≡ taken → ⊥) → after stepOf (es ▷ e) .link ≡ l
+  pub link-refused : (numberAfter (takenOf es) e ≡ taken → ⊥) → after ours (es ▷ e) .link ≡ l
   unfolding after refusedBy
   link-refused q = ap (λ (a : Answer). a .link) (answer-refused es e q)
 
@@ -120,46 +117,46 @@ module _ (es : Log) (e : Event) where
   unfolding takenOf
   log-refused q = rw q
 
-  inv-by : (b : Bool) → eqb (numberAfter (takenOf es) e) taken ≡ b → Inv l (takenOf es) → Inv (after stepOf (es ▷ e) .link) (takenOf (es ▷ e))
+  inv-by : (b : Bool) → eqb (numberAfter (takenOf es) e) taken ≡ b → Inv l (takenOf es) → Inv (after ours (es ▷ e) .link) (takenOf (es ▷ e))
   inv-by true q inv =
       let t = eqb-true _ _ q in
       rw (link-taken t, log-taken t) (inv-on l (takenOf es) e (behind es e t) inv)
   inv-by false q inv = rw (link-refused (eqb-false _ _ q), log-refused q) inv
 
-pub inv-of : (es : Log) → Inv (after stepOf es .link) (takenOf es)
+pub inv-of : (es : Log) → Inv (after ours es .link) (takenOf es)
 unfolding after takenOf
 inv-of none = inv-fresh
 inv-of (es ▷ e) = inv-by es e (eqb (numberAfter (takenOf es) e) taken) refl (inv-of es)
 
 -- an event that is taken completes the link's initialization exactly if it completes one on the events taken
-pub completes-connects : (es : Log) (e : Event) → numberAfter (takenOf es) e ≡ taken → Completes (after stepOf es .link) e ↔ Connects (takenOf es) e
+pub completes-connects : (es : Log) (e : Event) → numberAfter (takenOf es) e ≡ taken → Completes (after ours es .link) e ↔ Connects (takenOf es) e
 completes-connects es e q =
     let b = behind es e q in (
-      (λ c. connects-of (takenOf es) e (ends-of (after stepOf es .link) (takenOf es) e b (inv-of es) c)),
-      (λ c. completes-of (after stepOf es .link) (takenOf es) e b (inv-of es) (ended-by (takenOf es) e c) .0),
+      (λ c. connects-of (takenOf es) e (ends-of (after ours es .link) (takenOf es) e b (inv-of es) c)),
+      (λ c. completes-of (after ours es .link) (takenOf es) e b (inv-of es) (ended-by (takenOf es) e c) .0),
     )
 
 -- ---- the reports of an event that is taken, and of one that is refused
 pub reports-taken : (es : Log) (e : Event) → numberAfter (takenOf es) e ≡ taken
-    → reportsTo stepOf es e ≡ listed (handled (after stepOf es .link) e .reports)
+    → reportsTo ours es e ≡ listed (handled (after ours es .link) e .reports)
 unfolding takenBy
 reports-taken es e q = ap (λ (a : Answer). listed (a .reports)) (answer-taken es e q)
 
-refused-none : (es : Log) (e : Event) → (numberAfter (takenOf es) e ≡ taken → ⊥) → isAmong connectedReport (reportsTo stepOf es e) ≡ false
+refused-none : (es : Log) (e : Event) → (numberAfter (takenOf es) e ≡ taken → ⊥) → isAmong connectedReport (reportsTo ours es e) ≡ false
 unfolding refusedBy listed isAmong
 refused-none es e q = ap (λ (a : Answer). isAmong connectedReport (listed (a .reports))) (answer-refused es e q)
 
-forward-by : (b : Bool) (es : Log) (e : Event) → eqb (numberAfter (takenOf es) e) taken ≡ b → Says connectedReport (reportsTo stepOf es e)
+forward-by : (b : Bool) (es : Log) (e : Event) → eqb (numberAfter (takenOf es) e) taken ≡ b → Says connectedReport (reportsTo ours es e)
     → (numberAfter (takenOf es) e ≡ taken) × Connects (takenOf es) e
 forward-by true es e q s =
     let t = eqb-true _ _ q in
-    (t, completes-connects es e t .0 (says-completes (after stepOf es .link) e (sym (ap (isAmong connectedReport) (reports-taken es e t)) ∙ s)))
+    (t, completes-connects es e t .0 (says-completes (after ours es .link) e (sym (ap (isAmong connectedReport) (reports-taken es e t)) ∙ s)))
 forward-by false es e q s = absurd (false≢true (sym (refused-none es e (eqb-false _ _ q)) ∙ s))
 
 -- THE THEOREM
 pub connects-exactly : (es : Log) (e : Event)
-    → Says connectedReport (reportsTo stepOf es e) ↔ ((numberAfter (takenOf es) e ≡ taken) × Connects (takenOf es) e)
+    → Says connectedReport (reportsTo ours es e) ↔ ((numberAfter (takenOf es) e ≡ taken) × Connects (takenOf es) e)
 connects-exactly es e = (
   forward-by (eqb (numberAfter (takenOf es) e) taken) es e refl,
-  (λ c. ap (isAmong connectedReport) (reports-taken es e (c .0)) ∙ completes-says (after stepOf es .link) e (completes-connects es e (c .0) .1 (c .1))),
+  (λ c. ap (isAmong connectedReport) (reports-taken es e (c .0)) ∙ completes-says (after ours es .link) e (completes-connects es e (c .0) .1 (c .1))),
 )

@@ -15,12 +15,12 @@ use Rattle.events.specs.declared.Kind.the-variants.{Address, WakeUp, Byte}
 use Rattle.events.specs.declared.Side.{Side}
 use Rattle.events.specs.declared.Side.the-variants.{Tester, Unit, Nobody}
 use Rattle.events.specs.declared.Event.{Event}
-use Rattle.link.specs.Stepping.{stepOf}
 use Rattle.demands.specs.Logs.{Log, none, _▷_, clockOf, markOf, countOf, heardOf, numberAfter, takenOf}
 use Rattle.demands.specs.Histories.{reportsTo}
-use Rattle.demands.specs.Starts.{SlowStart, slow, request, addressed, FastStart, fast}
+use Rattle.demands.specs.Starts.{IsOne, SlowStart, slow, request, addressed, FastStart, fast}
 use Rattle.demands.specs.Connecting.{here, byte, Connects}
 use Rattle.demands.proofs.Names.{connects-names}
+use Rattle.demands.specs.Ours.{ours}
 
 -- a byte of 960 microseconds
 abbrev pub byteFrom : Side → ℕ → ℕ → Event
@@ -49,16 +49,16 @@ abbrev pub fastLast : Event
 fastLast = unit 0xC4 410_560
 
 pub fast-good : FastStart wakeUp 0xEF 0x8F (fastBytes ▷ fastLast)
-unfolding goodPair lengthInFormat extraLength noAddresses withAddresses
+unfolding goodPair lengthInFormat extraLength noAddresses withAddresses IsOne
 fast-good =
     fast {service = unit 0xC1 407_680} {one = unit 0xEF 408_640} {two = unit 0x8F 409_600} {sum = fastLast}
     (addressed {f = unit 0x83 404_800} {t = unit 0xF1 405_760} {s = unit 0x11 406_720}
     (request {f = tester 0x81 350_000} {t = tester 0x11 355_960} {s = tester 0xF1 361_920} {d = tester 0x81 367_880} {c = tester 0x04 373_840}
-    refl (omega arith, omega arith) (refl, (omega arith, omega arith), inl refl) (refl, (omega arith, omega arith)) (refl, (omega arith, omega arith))
-    (refl, (omega arith, omega arith)) refl (refl, (omega arith, omega arith)) refl)
-    (refl, (omega arith, omega arith)) refl (refl, (omega arith, omega arith)) (refl, (omega arith, omega arith)))
-    (refl, (omega arith, omega arith)) refl (refl, (omega arith, omega arith)) refl (refl, (omega arith, omega arith)) refl
-    (refl, (omega arith, omega arith)) refl refl
+    refl (omega arith, omega arith) (refl, (omega arith, omega arith), inl refl) (refl, (omega arith, omega arith), tt) (refl, (omega arith, omega arith), tt)
+    (refl, (omega arith, omega arith), refl) (refl, (omega arith, omega arith), refl))
+    (refl, (omega arith, omega arith), inr (inr (inl refl))) refl (refl, (omega arith, omega arith), tt) (refl, (omega arith, omega arith), tt))
+    (refl, (omega arith, omega arith), refl) (refl, (omega arith, omega arith), tt) (refl, (omega arith, omega arith), tt)
+    (refl, (omega arith, omega arith), (refl, refl))
 
 pub fast-idle : markOf none .0 + 300_000 ≤ wakeUp .start .0
 unfolding markOf
@@ -99,8 +99,8 @@ slowLast = unit 0xCC 5_178_840
 pub slow-good : SlowStart asked 0xEF 0x8F (slowBytes ▷ slowLast)
 unfolding goodPair lengthInFormat extraLength noAddresses withAddresses
 slow-good =
-    slow {sync = unit 0x55 5_100_000} {one = unit 0xEF 5_110_960} {two = unit 0x8F 5_116_920} {back = tester 0x70 5_147_880} {done = slowLast}
-    refl (refl, (omega arith, omega arith), refl) (refl, (omega arith, omega arith), refl) (refl, (omega arith, omega arith), refl, refl)
+    slow {s = unit 0x55 5_100_000} {one = unit 0xEF 5_110_960} {two = unit 0x8F 5_116_920} {back = tester 0x70 5_147_880} {done = slowLast}
+    refl (refl, (omega arith, omega arith), refl) (refl, (omega arith, omega arith), tt) (refl, (omega arith, omega arith), refl)
     (refl, (omega arith, omega arith), refl) (refl, (omega arith, omega arith), refl)
 
 pub slow-idle : markOf slowBefore .0 + 300_000 ≤ asked .start .0
@@ -129,12 +129,12 @@ slow-number : numberAfter (takenOf slowEvents) slowLast ≡ taken
 unfolding takenOf numberAfter clockOf countOf refusal isUnknown isTooLate isOutOfOrder isOther isByte isNobody
 slow-number = refl
 
-pub fast-reports : reportsTo stepOf fastEvents fastLast
+pub fast-reports : reportsTo ours fastEvents fastLast
     ≡ (record { first = 0; bytes = 12; time = micros 411_520; number = connectedReport; reason = noReason } ∷ [])
 unfolding takenOf numberAfter clockOf countOf refusal isUnknown isTooLate isOutOfOrder isOther isByte isNobody heardOf
 fast-reports = connects-names fastEvents fastLast fast-number fast-connects .reports
 
-pub slow-reports : reportsTo stepOf slowEvents slowLast
+pub slow-reports : reportsTo ours slowEvents slowLast
     ≡ (record { first = 0; bytes = 5; time = micros 5_179_800; number = connectedReport; reason = noReason } ∷ [])
 unfolding takenOf numberAfter clockOf countOf refusal isUnknown isTooLate isOutOfOrder isOther isByte isNobody heardOf
 slow-reports = connects-names slowEvents slowLast slow-number slow-connects .reports

@@ -1,17 +1,18 @@
 -- An initialization under way fails exactly as document 01 says: by its window's end, by the side, the start and the value of a byte, in that order; a
--- byte that is right lets it go on, and the last one connects. Outside of one, a report 4 is of a wrong low only; and its reasons are 1 to 6 anywhere.
+-- byte that is right lets it go on, and the last one connects. For the link is at the stage that the start and the bytes behind it lead to, and the place
+-- that is due is the one that this stage means. Outside of one, a report 4 is of a wrong low only; and its reasons are 1 to 6 anywhere.
 -- Assumes nothing.
-use Prim.Native.Nat.{ℕ, _-_, _≤_, _<_}
+use Prim.Native.Nat.{ℕ, _≤_, _<_}
 use mathlib.Core.Bool.{Bool, true, false, not, false≢true}
 use mathlib.Core.Path.{_≡_, _∙_, refl, sym, ap, ap₂, subst}
-use mathlib.Core.Logic.{_↔_, inl, inr}
+use mathlib.Core.Logic.{_↔_, inl, inr, ⊎-elim}
 use native.Mathlib.Omega.{arith}
-use lib.Dec.{eqb, ltb}
-use borrow.Author.Tests.{ltb-true, ltb-false, lt-ltb, not-true, ne-eqb}
+use lib.Dec.{eqb}
+use borrow.Author.Tests.{ltb-true, lt-ltb, ne-eqb}
 use Rattle.base.specs.Choice.{if_then_else_}
 use Rattle.base.specs.Numbers.{taken}
 use Rattle.base.specs.Reports.{connectedReport, failedReport, noReason, windowOver, wrongLow, wrongSide, tooEarly, misfit}
-use Rattle.base.proofs.Tests.{and-split, by-test}
+use Rattle.base.proofs.Tests.{by-test}
 use Rattle.units.specs.Units.{gapOf}
 use Rattle.units.specs.declared.Micros.{Micros}
 use Rattle.events.specs.Events.{isByte, sameSide}
@@ -26,36 +27,41 @@ use Rattle.starts.specs.declared.Stage.the-variants.{Format, Target, Source, Lo
 use Rattle.starts.specs.declared.Start.{Start}
 use Rattle.phases.specs.Phases.{isStarting, down, starting}
 use Rattle.phases.specs.declared.Phase.{Phase}
-use Rattle.moves.specs.Moves.{isGoodLow, sinceOrigin}
-use Rattle.link.proofs.Three.{handledTells}
-use Rattle.link.specs.Stepping.{stepOf}
+use Rattle.moves.specs.Moves.{sinceOrigin}
+use Rattle.link.specs.Telling.{handledTells}
 use Rattle.link.specs.declared.Link.{Link}
-use Rattle.demands.specs.Logs.{Log, none, _▷_, markOf, numberAfter, takenOf}
+use Rattle.demands.specs.Logs.{Log, none, _▷_, markOf, numberAfter, takenOf, eventsOf}
 use Rattle.demands.specs.Refusals.{Not}
 use Rattle.demands.specs.Histories.{after, reportsTo, isAmong, Says, Tells}
 use Rattle.demands.specs.Connecting.{Since, here, tick, byte}
 use Rattle.demands.specs.Endings.{Starter, Starting, goes-on}
-use Rattle.demands.specs.Failing.{isAddress, comeTo, dueFrom, UnderWay, soFar, from, WindowOver, SideDue, TooEarly, ValueFits, AllRight, endsHere, ByteInTime, Fails}
+use Rattle.demands.specs.Starts.{isAddress, due, dueFrom}
+use Rattle.demands.specs.Failing.{UnderWay, dueNow, from, WindowOver, SideDue, TooEarly, ValueFits, AllRight, endsHere, ByteInTime, Fails}
 use Rattle.demands.proofs.Basics.{basics}
 use Rattle.demands.proofs.Entering.{In}
 use Rattle.demands.proofs.Completing.{says-completes, completes-says}
 use Rattle.demands.proofs.Judging.{judged-by, side-is, is-side}
-use Rattle.demands.proofs.Exactly.{runs-starts, behind, inv-of, reports-taken}
+use Rattle.demands.proofs.Waking.{good-low}
+use Rattle.demands.proofs.Staged.{Means, means}
+use Rattle.demands.proofs.Slowly.{slow-place}
+use Rattle.demands.proofs.Fastly.{fast-place}
+use Rattle.demands.proofs.Exactly.{behind, inv-of, reports-taken}
 use Rattle.demands.proofs.Going.{never-starting}
 use Rattle.demands.proofs.Passing.{Leaves, over, idle, up, same}
 use Rattle.demands.proofs.Causes.{runs-out, closes, low, wrong, of-fail, leftBy, was-starting, still-starting, over-made, long-of, left-at, tells-caused, says-caused, made-at}
 use Rattle.demands.proofs.Causes.{Fails as FailsBy}
 use Rattle.demands.proofs.Initializing.{isCloser, no-closer, no-byte, judges, lets-none, wrong-made, starting-exactly, over-told, false-of}
-use Rattle.demands.proofs.Running.{firstBy, fallBy, startOn, phaseOn, lastEnd, Starts, Runs, runs-mark, since-mark}
+use Rattle.demands.proofs.Running.{firstBy, fallBy, startOn, phaseOn, lastEnd, Starts, Runs, runs-starts, runs-mark, since-mark}
+use Rattle.demands.specs.Ours.{ours}
 
 -- ---- a log has no two initializations under way
-data Same (a : Event) (before bs : Log) : Event → Log → Log → Type 0 where
+pub data Same (a : Event) (before bs : Log) : Event → Log → Log → Type 0 where
   same-way : Same a before bs a before bs
 
 more-same : {a c : Event} {before earlier bs cs : Log} (e : Event) → Same a before bs c earlier cs → Same a before (bs ▷ e) c earlier (cs ▷ e)
 more-same e same-way = same-way
 
-since-only : {a c : Event} {before earlier log bs cs : Log} → Starter a → Starter c → Since a before log bs → Since c earlier log cs → Same a before bs c earlier cs
+pub since-only : {a c : Event} {before earlier log bs cs : Log} → Starter a → Starter c → Since a before log bs → Since c earlier log cs → Same a before bs c earlier cs
 unfolding isByte
 since-only s t here here = same-way
 since-only {a = a} s t here (tick k w) = absurd (no-closer a Tick refl k (inl s))
@@ -67,18 +73,12 @@ since-only {c = c} s t (byte j v) here = absurd (no-closer c Byte refl j (inl t)
 since-only s t (byte {e = e} j v) (tick k w) = absurd (no-byte e Tick refl k j)
 since-only s t (byte {e = e} j v) (byte k w) = more-same e (since-only s t v w)
 
--- ---- what is due next, as the link's phase has it
-come-none : (a : Event) → Starter a → comeTo a none ≡ startOn a none
-unfolding comeTo startOn isAddress
-come-none a (inl k) = ap (λ (x : Kind). if isAddress x then slowStart (a .value) else fastStart) k ∙ sym (ap (λ (x : Kind). firstBy x (a .value)) k)
-come-none a (inr k) = ap (λ (x : Kind). if isAddress x then slowStart (a .value) else fastStart) k ∙ sym (ap (λ (x : Kind). firstBy x (a .value)) k)
+-- ---- what is due next, as the link's phase has it: the place that its stage means, ..
+due-at : (m : Micros) (a : Event) (bs : Log) → Starter a → Runs m a bs → Means (startOn a bs) (due a (eventsOf bs))
+due-at m a bs s r =
+    subst (Means (startOn a bs)) (sym (⊎-elim (λ k. slow-place m a bs k r) (λ k. fast-place m a bs k r) s)) (means (startOn a bs))
 
-come-same : (a : Event) (bs : Log) → Starter a → startOn a bs ≡ comeTo a bs
-unfolding comeTo startOn
-come-same a none s = sym (come-none a s)
-come-same a (bs ▷ b) s = ap (λ (x : Start). onward x (b .value)) (come-same a bs s)
-
--- no byte leads to the tester's first one
+-- .. timed from the fall or the end of the byte before: no byte leads to the tester's first one
 after-format : (v : ℕ) → isOpening (roleAt (afterFormat v)) ≡ false
 unfolding afterFormat roleAt isOpening
 after-format v =
@@ -119,12 +119,9 @@ from-same a (bs ▷ b) s = rw (opens-none (startOn a bs .stage) (b .value)) refl
 
 -- a wake-up falls before it rises
 starts-first : (k : Kind) (m : Micros) (a : Event) → a .kind ≡ k → Starts k m a → dueFrom a none .0 ≤ a .end .0
-unfolding dueFrom isAddress isGoodLow
+unfolding dueFrom isAddress
 starts-first Address m a k s = omega (arith, ap (λ (x : Kind). (if isAddress x then a .end else a .start) .0) k)
-starts-first WakeUp m a k s =
-    let d = a .end .0 - a .start .0 in
-    let x = and-split (not (ltb d 24_000)) (not (ltb 26_000 d)) (s .1) in
-    omega (arith, ap (λ (x : Kind). (if isAddress x then a .end else a .start) .0) k, ltb-false d 24_000 (not-true (ltb d 24_000) (x .0)))
+starts-first WakeUp m a k s = omega (arith, ap (λ (x : Kind). (if isAddress x then a .end else a .start) .0) k, good-low a .0 (s .1) .0)
 starts-first Byte m a k s = absurd s
 starts-first Tick m a k s = absurd s
 starts-first Drop m a k s = absurd s
@@ -188,7 +185,7 @@ wrong-by p q mark e (low w i l) h = absurd (omega arith)
 wrong-by p q mark e (wrong s b m) h = (s, b, refl)
 
 -- ---- where the link is: at what the start and the bytes have come to
-pub under-way : (es : Log) → Starting stepOf es → UnderWay (takenOf es)
+pub under-way : (es : Log) → Starting ours es → UnderWay (takenOf es)
 under-way es s =
     let g = inv-of es .forth (starting-exactly es .1 s) in
     record { start = g .start; before = g .before; bytes = g .bytes; starter = starter-of (markOf (g .before)) (g .start) (g .bytes) (g .runs); since = g .since }
@@ -197,9 +194,9 @@ runs-same : {a c : Event} {before earlier bs cs : Log} {p : Phase} → Same a be
     → Runs (markOf earlier) c cs × (p ≡ phaseOn c cs)
 runs-same same-way r q = (r, q)
 
-module _ (es : Log) (s : Starting stepOf es) (u : UnderWay (takenOf es)) where
+module _ (es : Log) (s : Starting ours es) (u : UnderWay (takenOf es)) where
   abbrev l : Link
-  l = after stepOf es .link
+  l = after ours es .link
 
   inside : In (l .phase)
   inside = starting-exactly es .1 s
@@ -212,9 +209,15 @@ module _ (es : Log) (s : Starting stepOf es) (u : UnderWay (takenOf es)) where
   mark-at : l .mark ≡ lastEnd (u .start) (u .bytes)
   mark-at = basics es .mark ∙ since-mark (runs-mark (markOf (u .before)) (u .start) (u .bytes) (runs-at .0)) (u .since)
 
-  start-at : l .phase .start ≡ soFar u
+  abbrev soFar : Start
+  soFar = startOn (u .start) (u .bytes)
+
+  start-at : l .phase .start ≡ soFar
   unfolding starting
-  start-at = ap (λ (p : Phase). p .start) (runs-at .1) ∙ come-same (u .start) (u .bytes) (u .starter)
+  start-at = ap (λ (p : Phase). p .start) (runs-at .1)
+
+  due-now : Means soFar (dueNow u)
+  due-now = due-at (markOf (u .before)) (u .start) (u .bytes) (u .starter) (runs-at .0)
 
   module _ (e : Event) where
     abbrev gap : Micros
@@ -230,28 +233,36 @@ module _ (es : Log) (s : Starting stepOf es) (u : UnderWay (takenOf es)) where
     unfolding isOver
     over-at =
         let q = ap₂ isOver start-at gap-at in
-        let late = dueAt (soFar u .stage) .latest .0 in (
+        let late = dueAt (soFar .stage) .latest .0 in
+        let d = due-now .latest in (
           λ o. let h = ltb-true late (gap .0) (sym q ∙ o) in omega arith,
           λ o. q ∙ lt-ltb late (gap .0) (omega (arith, o)),
         )
 
-    judged-at : judges l e (l .phase) ≡ judged (soFar u) (e .side) (e .value) gap
+    judged-at : judges l e (l .phase) ≡ judged soFar (e .side) (e .value) gap
     judged-at = ap₂ (λ (x : Start) (y : Micros). judged x (e .side) (e .value) y) start-at gap-at
 
-    side-at : (isFrom (soFar u) (e .side) ≡ true) ↔ SideDue u e
+    side-at : (isFrom soFar (e .side) ≡ true) ↔ SideDue u e
     unfolding isFrom
-    side-at = (side-is (e .side) (dueAt (soFar u .stage) .side), λ q. ap (sameSide (e .side)) (sym q) ∙ is-side (e .side))
+    side-at = (
+      λ h. side-is (e .side) (dueAt (soFar .stage) .side) h ∙ due-now .side,
+      λ q. ap (sameSide (e .side)) (due-now .side ∙ sym q) ∙ is-side (e .side),
+    )
 
-    early-at : numberAfter (takenOf es) e ≡ taken → (isEarly (soFar u) gap ≡ true) ↔ TooEarly u e
+    early-at : numberAfter (takenOf es) e ≡ taken → (isEarly soFar gap ≡ true) ↔ TooEarly u e
     unfolding isEarly
     early-at n =
         let b = behind es e n in
         let first = from-first (markOf (u .before)) (u .start) (u .bytes) (runs-at .0) in
-        let soon = dueAt (soFar u .stage) .earliest .0 in
+        let soon = dueAt (soFar .stage) .earliest .0 in
+        let d = due-now .earliest in
         let o : from u .0 ≤ e .start .0 = omega (arith, first, ap (λ (x : Micros). x .0) mark-at, b .order, b .later) in (
           λ t. let h = ltb-true (gap .0) soon t in omega arith,
           λ t. lt-ltb (gap .0) soon (omega (arith, t)),
         )
+
+    value-at : (fits soFar (e .value) ≡ true) ↔ ValueFits u e
+    value-at = due-now .value (e .value)
 
     -- ---- a byte that finds the window open is judged by what is due
     left-at-is : Not (WindowOver u e) → In (leftBy l e .phase) × (leftBy l e .phase ≡ l .phase)
@@ -259,10 +270,10 @@ module _ (es : Log) (s : Starting stepOf es) (u : UnderWay (takenOf es)) where
         let i = still-starting (l .phase) (l .mark) (e .start) _ (left-at es e) inside (λ o. n (over-at .0 (o .1))) in
         (i, left-same (l .phase) (l .mark) (e .start) _ (left-at es e) i)
 
-    judges-left : leftBy l e .phase ≡ l .phase → judges l e (leftBy l e .phase) ≡ judged (soFar u) (e .side) (e .value) gap
+    judges-left : leftBy l e .phase ≡ l .phase → judges l e (leftBy l e .phase) ≡ judged soFar (e .side) (e .value) gap
     judges-left q = ap (judges l e) q ∙ judged-at
 
-    wrong-told : (k : ℕ) → wrongLow < k → Tells failedReport k (reportsTo stepOf es e) → ByteInTime es u e × (judged (soFar u) (e .side) (e .value) gap ≡ k)
+    wrong-told : (k : ℕ) → wrongLow < k → Tells failedReport k (reportsTo ours es e) → ByteInTime es u e × (judged soFar (e .side) (e .value) gap ≡ k)
     wrong-told k h t =
         let x = tells-caused es e failedReport k t in
         let w = wrong-by _ _ _ e (of-fail _ _ _ e (x .cause) refl) h in
@@ -270,7 +281,7 @@ module _ (es : Log) (s : Starting stepOf es) (u : UnderWay (takenOf es)) where
         let q = left-same (l .phase) (l .mark) (e .start) _ (left-at es e) (w .0) in
         ((x .number-is, w .1, λ o. n (inside, over-at .1 o)), sym (judges-left q) ∙ w .2)
 
-    told-wrong : (k : ℕ) → wrongLow < k → ByteInTime es u e → judged (soFar u) (e .side) (e .value) gap ≡ k → Tells failedReport k (reportsTo stepOf es e)
+    told-wrong : (k : ℕ) → wrongLow < k → ByteInTime es u e → judged soFar (e .side) (e .value) gap ≡ k → Tells failedReport k (reportsTo ours es e)
     told-wrong k h x j =
         let i = left-at-is (x .2) in
         let q = judges-left (i .1) ∙ j in
@@ -278,63 +289,63 @@ module _ (es : Log) (s : Starting stepOf es) (u : UnderWay (takenOf es)) where
         made-at es e failedReport k (x .0) (subst (λ (m : ℕ). Tells failedReport m (handledTells l e)) q (wrong-made l e (long-of es) (x .1) (i .0) z))
 
     -- ---- the reasons, one by one
-    fails-over : Tells failedReport windowOver (reportsTo stepOf es e) ↔ ((numberAfter (takenOf es) e ≡ taken) × WindowOver u e)
+    fails-over : Tells failedReport windowOver (reportsTo ours es e) ↔ ((numberAfter (takenOf es) e ≡ taken) × WindowOver u e)
     fails-over = (
       λ t. (tells-caused es e failedReport windowOver t .number-is, over-at .0 (over-told es e t .1)),
       λ x. made-at es e failedReport windowOver (x .0) (over-made l e (long-of es) (inside, over-at .1 (x .1))),
     )
 
-    fails-side : Tells failedReport wrongSide (reportsTo stepOf es e) ↔ (ByteInTime es u e × Not (SideDue u e))
+    fails-side : Tells failedReport wrongSide (reportsTo ours es e) ↔ (ByteInTime es u e × Not (SideDue u e))
     unfolding judged
     fails-side = (
       λ t.
           let w = wrong-told wrongSide (omega arith) t in
-          let j = verdict-side (isFrom (soFar u) (e .side)) (isEarly (soFar u) gap) (fits (soFar u) (e .value)) (w .1) in
+          let j = verdict-side (isFrom soFar (e .side)) (isEarly soFar gap) (fits soFar (e .value)) (w .1) in
           (w .0, λ d. false≢true (sym j ∙ side-at .1 d)),
-      λ x. told-wrong wrongSide (omega arith) (x .0) (rw (false-of (isFrom (soFar u) (e .side)) (λ d. x .1 (side-at .0 d))) refl),
+      λ x. told-wrong wrongSide (omega arith) (x .0) (rw (false-of (isFrom soFar (e .side)) (λ d. x .1 (side-at .0 d))) refl),
     )
 
-    fails-early : Tells failedReport tooEarly (reportsTo stepOf es e) ↔ (ByteInTime es u e × SideDue u e × TooEarly u e)
+    fails-early : Tells failedReport tooEarly (reportsTo ours es e) ↔ (ByteInTime es u e × SideDue u e × TooEarly u e)
     unfolding judged
     fails-early = (
       λ t.
           let w = wrong-told tooEarly (omega arith) t in
-          let j = verdict-early (isFrom (soFar u) (e .side)) (isEarly (soFar u) gap) (fits (soFar u) (e .value)) (w .1) in
+          let j = verdict-early (isFrom soFar (e .side)) (isEarly soFar gap) (fits soFar (e .value)) (w .1) in
           (w .0, side-at .0 (j .0), early-at (w .0 .0) .0 (j .1)),
       λ x. told-wrong tooEarly (omega arith) (x .0) (rw (side-at .1 (x .1), early-at (x .0 .0) .1 (x .2)) refl),
     )
 
-    fails-value : Tells failedReport misfit (reportsTo stepOf es e) ↔ (ByteInTime es u e × SideDue u e × Not (TooEarly u e) × Not (ValueFits u e))
+    fails-value : Tells failedReport misfit (reportsTo ours es e) ↔ (ByteInTime es u e × SideDue u e × Not (TooEarly u e) × Not (ValueFits u e))
     unfolding judged
     fails-value = (
       λ t.
           let w = wrong-told misfit (omega arith) t in
-          let j = verdict-value (isFrom (soFar u) (e .side)) (isEarly (soFar u) gap) (fits (soFar u) (e .value)) (w .1) in
-          (w .0, side-at .0 (j .0), λ d. false≢true (sym (j .1) ∙ early-at (w .0 .0) .1 d), λ f. false≢true (sym (j .2) ∙ f)),
+          let j = verdict-value (isFrom soFar (e .side)) (isEarly soFar gap) (fits soFar (e .value)) (w .1) in
+          (w .0, side-at .0 (j .0), λ d. false≢true (sym (j .1) ∙ early-at (w .0 .0) .1 d), λ f. false≢true (sym (j .2) ∙ value-at .1 f)),
       λ x.
           told-wrong misfit (omega arith) (x .0)
           (rw (
             side-at .1 (x .1),
-            false-of (isEarly (soFar u) gap) (λ d. x .2 (early-at (x .0 .0) .0 d)),
-            false-of (fits (soFar u) (e .value)) (x .3),
+            false-of (isEarly soFar gap) (λ d. x .2 (early-at (x .0 .0) .0 d)),
+            false-of (fits soFar (e .value)) (λ f. x .3 (value-at .0 f)),
           ) refl),
     )
 
     -- ---- a byte that is right
-    right-at : ByteInTime es u e → AllRight u e → judged (soFar u) (e .side) (e .value) gap ≡ noReason
+    right-at : ByteInTime es u e → AllRight u e → judged soFar (e .side) (e .value) gap ≡ noReason
     unfolding judged
-    right-at x r = rw (side-at .1 (r .0), false-of (isEarly (soFar u) gap) (λ d. r .1 (early-at (x .0) .0 d)), r .2) refl
+    right-at x r = rw (side-at .1 (r .0), false-of (isEarly soFar gap) (λ d. r .1 (early-at (x .0) .0 d)), value-at .1 (r .2)) refl
 
-    right-of : numberAfter (takenOf es) e ≡ taken → judged (soFar u) (e .side) (e .value) gap ≡ noReason → AllRight u e
+    right-of : numberAfter (takenOf es) e ≡ taken → judged soFar (e .side) (e .value) gap ≡ noReason → AllRight u e
     unfolding judged
     right-of n q =
-        let j = judged-by (isFrom (soFar u) (e .side)) (isEarly (soFar u) gap) (fits (soFar u) (e .value)) q in
-        (side-at .0 (j .0), λ d. false≢true (sym (j .1) ∙ early-at n .1 d), j .2)
+        let j = judged-by (isFrom soFar (e .side)) (isEarly soFar gap) (fits soFar (e .value)) q in
+        (side-at .0 (j .0), λ d. false≢true (sym (j .1) ∙ early-at n .1 d), value-at .0 (j .2))
 
     last-at : isLast (l .phase .start .stage) ≡ endsHere u
-    last-at = ap (λ (x : Start). isLast (x .stage)) start-at
+    last-at = ap (λ (x : Start). isLast (x .stage)) start-at ∙ due-now .last
 
-    succeeds : Says connectedReport (reportsTo stepOf es e) ↔ (ByteInTime es u e × AllRight u e × (endsHere u ≡ true))
+    succeeds : Says connectedReport (reportsTo ours es e) ↔ (ByteInTime es u e × AllRight u e × (endsHere u ≡ true))
     succeeds = (
       λ t.
           let n = says-caused es e connectedReport t .caused .number-is in
@@ -352,24 +363,24 @@ module _ (es : Log) (s : Starting stepOf es) (u : UnderWay (takenOf es)) where
     )
 
     -- no report 4 where the window is open, nothing closes and no byte is wrong
-    no-failure : Not (WindowOver u e) → (isCloser (e .kind) ≡ false) → (e .kind ≡ Byte → judged (soFar u) (e .side) (e .value) gap ≡ noReason)
-        → Says failedReport (reportsTo stepOf es e) → ⊥
+    no-failure : Not (WindowOver u e) → (isCloser (e .kind) ≡ false) → (e .kind ≡ Byte → judged soFar (e .side) (e .value) gap ≡ noReason)
+        → Says failedReport (reportsTo ours es e) → ⊥
     no-failure n c j t =
         let i = left-at-is n in
         lets-none l e (i .0) (no-closer e (e .kind) c refl) (λ b. judges-left (i .1) ∙ j b) (λ o. n (over-at .0 (o .1)))
         (of-fail _ _ _ e (says-caused es e failedReport t .caused .cause) refl)
 
-    goes-by : ByteInTime es u e → AllRight u e → endsHere u ≡ false → Starting stepOf (es ▷ e)
+    goes-by : ByteInTime es u e → AllRight u e → endsHere u ≡ false → Starting ours (es ▷ e)
     goes-by x r z =
         goes-on s (λ t. false≢true (sym z ∙ succeeds .0 t .2)) (no-failure (x .2) (ap isCloser (x .1)) (λ _. right-at x r))
 
-    waits-by : numberAfter (takenOf es) e ≡ taken → e .kind ≡ Tick → Not (WindowOver u e) → Starting stepOf (es ▷ e)
+    waits-by : numberAfter (takenOf es) e ≡ taken → e .kind ≡ Tick → Not (WindowOver u e) → Starting ours (es ▷ e)
     unfolding isByte
     waits-by n k o =
         goes-on s (λ t. no-byte e Tick refl k (succeeds .0 t .0 .1)) (no-failure o (ap isCloser k) (λ b. absurd (no-byte e Tick refl k b)))
 
 -- HOW IT FAILS
-pub fails-exactly : (es : Log) (e : Event) → Starting stepOf es → (u : UnderWay (takenOf es)) → Fails stepOf es e u
+pub fails-exactly : (es : Log) (e : Event) → Starting ours es → (u : UnderWay (takenOf es)) → Fails ours es e u
 fails-exactly es e s u = record {
   over = fails-over es s u e;
   side = fails-side es s u e;
@@ -381,14 +392,14 @@ fails-exactly es e s u = record {
 }
 
 -- ---- outside of an initialization
-low-only : (es : Log) (e : Event) {k : ℕ} → Not (Starting stepOf es)
-    → FailsBy (after stepOf es .link .phase) (leftBy (after stepOf es .link) e .phase) (after stepOf es .link .mark) e k → k ≡ wrongLow
+low-only : (es : Log) (e : Event) {k : ℕ} → Not (Starting ours es)
+    → FailsBy (after ours es .link .phase) (leftBy (after ours es .link) e .phase) (after ours es .link .mark) e k → k ≡ wrongLow
 low-only es e n (runs-out o) = absurd (n (starting-exactly es .0 (o .0)))
 low-only es e n (closes s c) = absurd (n (starting-exactly es .0 (was-starting _ _ (e .start) _ (left-at es e) s .0)))
 low-only es e n (low w i l) = refl
 low-only es e n (wrong s b m) = absurd (n (starting-exactly es .0 (was-starting _ _ (e .start) _ (left-at es e) s .0)))
 
-pub never-else : (es : Log) (e : Event) (k : ℕ) → Not (Starting stepOf es) → Tells failedReport k (reportsTo stepOf es e) → k ≡ wrongLow
+pub never-else : (es : Log) (e : Event) (k : ℕ) → Not (Starting ours es) → Tells failedReport k (reportsTo ours es e) → k ≡ wrongLow
 never-else es e k n t = low-only es e n (of-fail _ _ _ e (tells-caused es e failedReport k t .cause) refl)
 
 -- ---- the reasons of a report 4, anywhere
@@ -409,5 +420,5 @@ reasons-by p q mark e (closes s c) = (omega arith, omega arith)
 reasons-by p q mark e (low w i l) = (omega arith, omega arith)
 reasons-by p q mark e (wrong s b m) = (omega (arith, m), judged-most q mark e)
 
-pub fails-reasons : (es : Log) (e : Event) (k : ℕ) → Tells failedReport k (reportsTo stepOf es e) → (1 ≤ k) × (k ≤ 6)
+pub fails-reasons : (es : Log) (e : Event) (k : ℕ) → Tells failedReport k (reportsTo ours es e) → (1 ≤ k) × (k ≤ 6)
 fails-reasons es e k t = reasons-by _ _ _ e (of-fail _ _ _ e (tells-caused es e failedReport k t .cause) refl)

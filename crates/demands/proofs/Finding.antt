@@ -15,14 +15,16 @@ use Rattle.moves.specs.declared.Move.{Move}
 use Rattle.reports.specs.Reporting.{reportOf, listed}
 use Rattle.reports.specs.declared.Report.{Report}
 use Rattle.reports.specs.declared.Run.{Run}
-use Rattle.link.specs.Stepping.{refusedBy, stepOf}
+use Rattle.link.specs.Stepping.{refusedBy}
 use Rattle.link.specs.declared.Answer.{Answer}
-use Rattle.link.proofs.Three.{tells, handledTells, three-enough}
+use Rattle.link.specs.Telling.{tells, handledTells}
+use Rattle.link.proofs.Three.{three-enough}
 use Rattle.demands.specs.Logs.{Log, numberAfter, takenOf}
 use Rattle.demands.specs.Histories.{after, reportsTo, isAmong, Says, Among, first, later, Tells}
 use Rattle.demands.proofs.Basics.{answer-refused}
 use Rattle.demands.proofs.Exactly.{reports-taken}
 use Rattle.demands.proofs.Saying.{Each, each-none, each-one, among-left, among-right, not-among}
+use Rattle.demands.specs.Ours.{ours}
 
 -- ---- a report of this number
 pub record Speaks (number : ℕ) (rs : List Report) : Type 0 where
@@ -34,7 +36,7 @@ or-second : (a b : Bool) → b ≡ true → (a || b) ≡ true
 or-second true b h = refl
 or-second false b h = h
 
-among-says : {r : Report} {rs : List Report} (number : ℕ) → Among r rs → r .number ≡ number → Says number rs
+pub among-says : {r : Report} {rs : List Report} (number : ℕ) → Among r rs → r .number ≡ number → Says number rs
 unfolding isAmong
 among-says {r = r} number first q = rw (eq-eqb (r .number) number q) refl
 among-says {r = r} number (later {rs = rs} {s = s} a) q = or-second (eqb (s .number) number) (isAmong number rs) (among-says number a q)
@@ -89,14 +91,14 @@ move-each C r m h =
     (λ z. each-one (λ (x : Report). C (x .number) (x .reason)) _ (h z))
 
 -- ---- of an event: one that is refused makes none
-pub reports-made : (es : Log) (e : Event) → numberAfter (takenOf es) e ≡ taken → reportsTo stepOf es e ≡ handledTells (after stepOf es .link) e
-reports-made es e q = reports-taken es e q ∙ three-enough (after stepOf es .link) e
+pub reports-made : (es : Log) (e : Event) → numberAfter (takenOf es) e ≡ taken → reportsTo ours es e ≡ handledTells (after ours es .link) e
+reports-made es e q = reports-taken es e q ∙ three-enough (after ours es .link) e
 
-none-refused : (es : Log) (e : Event) → (numberAfter (takenOf es) e ≡ taken → ⊥) → reportsTo stepOf es e ≡ []
+pub none-refused : (es : Log) (e : Event) → (numberAfter (takenOf es) e ≡ taken → ⊥) → reportsTo ours es e ≡ []
 unfolding refusedBy listed
 none-refused es e q = ap (λ (a : Answer). listed (a .reports)) (answer-refused es e q)
 
-pub taken-by-report : (es : Log) (e : Event) (x : Report) → Among x (reportsTo stepOf es e) → numberAfter (takenOf es) e ≡ taken
+pub taken-by-report : (es : Log) (e : Event) (x : Report) → Among x (reportsTo ours es e) → numberAfter (takenOf es) e ≡ taken
 taken-by-report es e x i = by-number (eqb (numberAfter (takenOf es) e) taken) refl
   where
     by-number : (b : Bool) → eqb (numberAfter (takenOf es) e) taken ≡ b → numberAfter (takenOf es) e ≡ taken

@@ -1,12 +1,14 @@
--- The bytes heard as events: they grow with the log as their values do; and the reason that they give, byte by byte. Assumes nothing.
-use Prim.Native.Nat.{ℕ}
+-- The bytes heard as events: they have the values heard, and grow with the log as these do; and the reason that they give by the rules of crates/talk,
+-- byte by byte.
+-- Assumes nothing.
+use Prim.Native.Nat.{ℕ, zero, suc}
 use mathlib.Core.Bool.{Bool, true, false}
 use mathlib.Core.List.{List, [], _∷_, _++_, append-nil}
 use mathlib.Core.Path.{_≡_, refl, sym, ap, _∙_}
 use native.Mathlib.Omega.{arith}
 use borrow.Author.Tests.{eq-eqb, ne-eqb}
 use lib.Dec.{eqb}
-use lib.ListN.{length, length-append}
+use lib.ListN.{length, drop, length-append}
 use Rattle.base.specs.Choice.{if_then_else_}
 use Rattle.base.specs.Numbers.{taken}
 use Rattle.base.specs.Reports.{noReason}
@@ -18,18 +20,37 @@ use Rattle.events.specs.declared.Event.{Event}
 use Rattle.talk.specs.Talk.{headReason, begun, laterReason, grown}
 use Rattle.talk.specs.declared.Message.{Message}
 use Rattle.demands.specs.Logs.{Log, none, _▷_, heardOf, heardIn, numberAfter, takenOf}
-use Rattle.demands.specs.Damage.{bytesOf, reasonBehind, reasonIn}
+use Rattle.demands.specs.Damage.{bytesOf, valuesOf}
 
--- ---- as many as their values
-pub same-length : (log : Log) → length (bytesOf log) ≡ length (heardOf log)
-unfolding bytesOf heardOf
-same-length none = refl
-same-length (log ▷ e) = by-kind (isByte (e .kind)) (same-length log)
+-- ---- their values
+pub values-both : (l k : List Event) → valuesOf (l ++ k) ≡ valuesOf l ++ valuesOf k
+unfolding valuesOf
+values-both [] k = refl
+values-both (b ∷ l) k = ap (λ (vs : List ℕ). b .value ∷ vs) (values-both l k)
+
+pub values-drop : (n : ℕ) (l : List Event) → valuesOf (drop n l) ≡ drop n (valuesOf l)
+unfolding valuesOf
+values-drop zero l = refl
+values-drop (suc n) [] = refl
+values-drop (suc n) (b ∷ l) = values-drop n l
+
+pub same-values : (log : Log) → valuesOf (bytesOf log) ≡ heardOf log
+unfolding bytesOf heardOf valuesOf
+same-values none = refl
+same-values (log ▷ e) = values-both (bytesOf log) _ ∙ (λ i. same-values log i ++ by-kind (isByte (e .kind)) i)
   where
-    by-kind : (c : Bool) → length (bytesOf log) ≡ length (heardOf log)
-        → length (bytesOf log ++ (if c then e ∷ [] else [])) ≡ length (heardOf log ++ (if c then e .value ∷ [] else []))
-    by-kind true h = omega (arith, length-append (bytesOf log) (e ∷ []), length-append (heardOf log) (e .value ∷ []))
-    by-kind false h = ap length (append-nil (bytesOf log)) ∙ h ∙ ap length (sym (append-nil (heardOf log)))
+    by-kind : (c : Bool) → valuesOf (if c then e ∷ [] else []) ≡ (if c then e .value ∷ [] else [])
+    by-kind true = refl
+    by-kind false = refl
+
+-- and so they are as many
+values-length : (l : List Event) → length (valuesOf l) ≡ length l
+unfolding valuesOf
+values-length [] = refl
+values-length (b ∷ l) = ap suc (values-length l)
+
+pub same-length : (log : Log) → length (bytesOf log) ≡ length (heardOf log)
+same-length log = sym (values-length (bytesOf log)) ∙ ap length (same-values log)
 
 -- ---- they grow with the log
 pub byte-events : (es : Log) (e : Event) → numberAfter (takenOf es) e ≡ taken → e .kind ≡ Byte → bytesOf (takenOf (es ▷ e)) ≡ bytesOf (takenOf es) ++ (e ∷ [])
@@ -52,22 +73,33 @@ same-events es e =
     {y = takenOf es}
     (λ _ q. more-events (takenOf es) e q) (λ _ _. refl)
 
--- ---- the reason that they give
-pub head-wrong : (kb1 : ℕ) (b : Event) (bs : List Event) → (headReason kb1 (b .value) ≡ noReason → ⊥) → reasonIn kb1 (b ∷ bs) ≡ headReason kb1 (b .value)
-unfolding reasonIn
+-- ---- the reason that they give by the rules of crates/talk; it is the one that `reasonIn` says (`reasons-agree`)
+-- that of the first byte that fails behind a message so far; none where no byte does
+unfoldable pub talkBehind : Message → List Event → ℕ
+talkBehind m [] = noReason
+talkBehind m (b ∷ bs) =
+    if eqb (laterReason m (b .side) (b .value)) noReason then talkBehind (grown m (b .value)) bs else laterReason m (b .side) (b .value)
+
+-- from the first byte on
+unfoldable pub talkReason : ℕ → List Event → ℕ
+talkReason kb1 [] = noReason
+talkReason kb1 (b ∷ bs) = if eqb (headReason kb1 (b .value)) noReason then talkBehind (begun (b .side) (b .value)) bs else headReason kb1 (b .value)
+
+pub head-wrong : (kb1 : ℕ) (b : Event) (bs : List Event) → (headReason kb1 (b .value) ≡ noReason → ⊥) → talkReason kb1 (b ∷ bs) ≡ headReason kb1 (b .value)
+unfolding talkReason
 head-wrong kb1 b bs n = rw (ne-eqb (headReason kb1 (b .value)) noReason n) refl
 
 pub head-right : (kb1 : ℕ) (b : Event) (bs : List Event) → headReason kb1 (b .value) ≡ noReason
-    → reasonIn kb1 (b ∷ bs) ≡ reasonBehind (begun (b .side) (b .value)) bs
-unfolding reasonIn
+    → talkReason kb1 (b ∷ bs) ≡ talkBehind (begun (b .side) (b .value)) bs
+unfolding talkReason
 head-right kb1 b bs q = rw (eq-eqb (headReason kb1 (b .value)) noReason q) refl
 
 pub later-wrong : (m : Message) (b : Event) (bs : List Event) → (laterReason m (b .side) (b .value) ≡ noReason → ⊥)
-    → reasonBehind m (b ∷ bs) ≡ laterReason m (b .side) (b .value)
-unfolding reasonBehind
+    → talkBehind m (b ∷ bs) ≡ laterReason m (b .side) (b .value)
+unfolding talkBehind
 later-wrong m b bs n = rw (ne-eqb (laterReason m (b .side) (b .value)) noReason n) refl
 
 pub later-right : (m : Message) (b : Event) (bs : List Event) → laterReason m (b .side) (b .value) ≡ noReason
-    → reasonBehind m (b ∷ bs) ≡ reasonBehind (grown m (b .value)) bs
-unfolding reasonBehind
+    → talkBehind m (b ∷ bs) ≡ talkBehind (grown m (b .value)) bs
+unfolding talkBehind
 later-right m b bs q = rw (eq-eqb (laterReason m (b .side) (b .value)) noReason q) refl

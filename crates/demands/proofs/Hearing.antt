@@ -34,7 +34,8 @@ use Rattle.talk.specs.declared.Reply.the-variants.{First, Further}
 use Rattle.talk.specs.declared.Request.{Request}
 use Rattle.talk.specs.declared.Request.the-variants.{Ordinary, Stop, OwnTiming, NewTiming}
 use Rattle.talk.specs.declared.Message.{Message}
-use Rattle.talk.proofs.Frames.{endsIn, isMessage, message-reads}
+use Rattle.talk.specs.Messages.{endsIn, isMessage}
+use Rattle.talk.proofs.Frames.{message-reads}
 use Rattle.phases.specs.Phases.{isQuiet, isHeld, isOpen, isConnected, down, talking, holding, damaged, timed, asked, answered, framed}
 use Rattle.phases.specs.declared.State.{State}
 use Rattle.phases.specs.declared.State.the-variants.{Down, Starting, Quiet, Held, Damage}
@@ -45,8 +46,7 @@ use Rattle.reports.specs.Reporting.{namesBytes, reportOf, told, withPhase, move
 use Rattle.reports.specs.declared.Report.{Report}
 use Rattle.reports.specs.declared.Run.{Run}
 use Rattle.link.specs.Handling.{hearing, byteHeard}
-use Rattle.link.proofs.Three.{tells, byteTells}
-use Rattle.link.specs.Stepping.{stepOf}
+use Rattle.link.specs.Telling.{tells, byteTells}
 use Rattle.demands.specs.Logs.{Log, _▷_, markOf, heardIn, numberAfter, takenOf, whole, more}
 use Rattle.demands.specs.Histories.{after, isAmong, Among, first, later, Tells}
 use Rattle.demands.specs.Accounts.{namedBy}
@@ -55,8 +55,8 @@ use Rattle.demands.specs.Sessions.{talkAfter, Session, inForce, gapBefor
 use Rattle.demands.proofs.Carrying.{Carries, Kept, begun as gone-none, on, gone-by, gone-ends, ends-now, kept-asked, message-carries}
 use Rattle.demands.proofs.Carrying.{reply-windows, reply-request, reply-stops}
 use Rattle.demands.specs.Messages.{InTime}
-use Rattle.demands.specs.Damage.{bytesOf, reasonBehind, reasonIn}
-use Rattle.demands.proofs.Gathering.{same-length, byte-events, head-wrong, head-right, later-wrong, later-right}
+use Rattle.demands.specs.Damage.{bytesOf}
+use Rattle.demands.proofs.Gathering.{talkBehind, talkReason, same-length, byte-events, head-wrong, head-right, later-wrong, later-right}
 use Rattle.demands.proofs.Behind.{FirstOf, Speaking, begins, grows}
 use Rattle.demands.proofs.Tiling.{sum-is}
 use Rattle.demands.proofs.Listening.{Bytes, byte-longer, begins-longer}
@@ -64,6 +64,7 @@ use Rattle.demands.proofs.Saying.{Each, each-none, each-one, each-both}
 use Rattle.demands.proofs.Reasons.{same-is, has-side, first-early, first-stray, first-else, first-head, later-elsewhere}
 use Rattle.demands.proofs.Going.{Fits, Holds, reasonWith, Opened, At, Told, plain, turned}
 use Rattle.demands.proofs.Closing.{Ends, still-up, over}
+use Rattle.demands.specs.Ours.{ours}
 
 -- ---- small laws
 pub within : (n : ℕ) (l : List ℕ) (x : ℕ) (xs : List ℕ) → drop n l ≡ x ∷ xs → n ≤ length l
@@ -161,7 +162,7 @@ module _ (es : Log) (e : Event) (all : List Report) (kind : e .kind ≡ Byte) (n
 
   -- a byte that makes no report
   silent-byte : (t : Talk) (r : Run) (q : Phase) → isQuiet (q .state) ≡ false
-      → (Session stepOf (es ▷ e) t → after stepOf (es ▷ e) .link .named ≡ r .named → At (es ▷ e) t q (r .named) (countSum (r .heard) 1))
+      → (Session ours (es ▷ e) t → after ours (es ▷ e) .link .named ≡ r .named → At (es ▷ e) t q (r .named) (countSum (r .heard) 1))
       → Heard t r (still q)
   unfolding tells moved afterStop isAmong talkAfter
   silent-byte t r q n f _ =
@@ -170,8 +171,8 @@ module _ (es : Log) (e : Event) (all : List Report) (kind : e .kind ≡ Byte) (n
       (λ c. absurd (false≢true (sym n ∙ and-split (isQuiet (q .state)) _ c .0))) (λ _. still-up refl (each-none (Told es e all t)) f)
 
   -- ---- the first byte of a message
-  module _ (t : Talk) (p : Phase) (named heard : ℕ) (a : At es t p named heard) (quiet : isQuiet (p .state) ≡ true) (s : Session stepOf (es ▷ e) t)
-      (last : after stepOf (es ▷ e) .link .named ≡ named) where
+  module _ (t : Talk) (p : Phase) (named heard : ℕ) (a : At es t p named heard) (quiet : isQuiet (p .state) ≡ true) (s : Session ours (es ▷ e) t)
+      (last : after ours (es ▷ e) .link .named ≡ named) where
     abbrev reason : ℕ
     reason = reasonAtFirst p (e .side) (e .value) (gapOf mark (e .start))
 
@@ -218,7 +219,7 @@ module _ (es : Log) (e : Event) (all : List Report) (kind : e .kind ≡ Byte) (n
             astray = reason-stray noReason (sym z);
             fresh = λ _ _. refl;
             reasoned = λ _ _ bs.
-                ap (reasonIn (t .kb1)) (first-event bs) ∙ head-right (t .kb1) e bs (first-head (t .kb1) (t .reply) (inForce t) (e .side) (e .value)
+                ap (talkReason (t .kb1)) (first-event bs) ∙ head-right (t .kb1) e bs (first-head (t .kb1) (t .reply) (inForce t) (e .side) (e .value)
                 (gapBefore (takenOf es) e) (sym reason-by ∙ z));
             against = λ h. absurd (false≢true (sym h));
             held = λ _. record {
@@ -256,7 +257,7 @@ module _ (es : Log) (e : Event) (all : List Report) (kind : e .kind ≡ Byte) (n
             fresh = λ _ z. absurd (n (reason-by ∙ z));
             reasoned = λ x y bs.
                 let q = reason-by ∙ first-else t (gapBefore (takenOf es) e) e sided (t .kb1) x y in
-                ap (reasonIn (t .kb1)) (first-event bs) ∙ head-wrong (t .kb1) e bs (λ z. n (q ∙ z)) ∙ sym q;
+                ap (talkReason (t .kb1)) (first-event bs) ∙ head-wrong (t .kb1) e bs (λ z. n (q ∙ z)) ∙ sym q;
             against = λ _. n;
             held = λ h. absurd (false≢true h);
           };
@@ -312,8 +313,8 @@ module _ (es : Log) (e : Event) (all : List Report) (kind : e .kind ≡ Byte) (n
         let index = o .index in
         absurd (omega arith);
     reasoned = λ x y bs.
-        ap (λ (l : List Event). reasonIn (t .kb1) (l ++ bs)) (one-event t p named o)
-        ∙ ap (reasonIn (t .kb1)) (append-assoc (drop named (bytesOf (takenOf es))) (e ∷ []) bs)
+        ap (λ (l : List Event). talkReason (t .kb1) (l ++ bs)) (one-event t p named o)
+        ∙ ap (talkReason (t .kb1)) (append-assoc (drop named (bytesOf (takenOf es))) (e ∷ []) bs)
         ∙ o .reasoned x y (e ∷ bs) ∙ k bs;
     against = n;
     held = h;
@@ -344,7 +345,7 @@ module _ (es : Log) (e : Event) (all : List Report) (kind : e .kind ≡ Byte) (n
     same-reason : (k n : ℕ) → (k ≡ n → ⊥) → (noReason ≡ n → ⊥) → (k ≡ n) ↔ (lossReason (r .phase) noReason ≡ n)
     same-reason k n x y = (λ q. absurd (x q), λ q. absurd (y (sym (held-loss (r .phase) noReason h) ∙ q)))
 
-    held-reason : (bs : List Event) → reasonWith (r .phase) bs ≡ reasonBehind (r .phase .message) bs
+    held-reason : (bs : List Event) → reasonWith (r .phase) bs ≡ talkBehind (r .phase .message) bs
     held-reason bs = rw h refl
 
     later-damaged : (wrong ≡ noReason → ⊥) → At (es ▷ e) t (damaged (r .phase) wrong) (r .named) (countSum (r .heard) 1)

@@ -31,9 +31,8 @@ use Rattle.reports.specs.Reporting.{moved}
 use Rattle.reports.specs.declared.Run.{Run}
 use Rattle.link.specs.Handling.{freshLink, shut, hearing, byteHeard, actedBy, acted, handled, linkAfter}
 use Rattle.link.specs.declared.Link.{Link}
-use Rattle.link.proofs.Three.{handledTells}
+use Rattle.link.specs.Telling.{handledTells}
 use Rattle.link.proofs.Long.{Long}
-use Rattle.link.specs.Stepping.{stepOf}
 use Rattle.demands.specs.Sessions.{SomeSession}
 use Rattle.demands.specs.Logs.{Log, none, _▷_, numberAfter, takenOf, InBytes}
 use Rattle.demands.specs.Refusals.{Not}
@@ -51,6 +50,7 @@ use Rattle.demands.proofs.Acting.{byte-tells}
 use Rattle.demands.proofs.Causes.{Closer, Fails, runs-out, closes, low, wrong, of-fail, of-outside, of-down, of-over, of-closed, of-idle, leftBy}
 use Rattle.demands.proofs.Causes.{IsDown, was-starting, still-starting, was-down, is-down, by-acting, over-made, idles-made, closed-made, outside-made, long-of, left-at, tells-caused, says-caused, made-at, says-made}
 use Rattle.demands.proofs.Leaving.{wrong-low, mark-not-idle, mark-idle}
+use Rattle.demands.specs.Ours.{ours}
 
 -- ---- kinds apart
 -- A, W and D
@@ -175,10 +175,10 @@ module _ (l : Link) (e : Event) where
 -- ---- behind events
 module _ (es : Log) (e : Event) where
   abbrev here : Link
-  here = after stepOf es .link
+  here = after ours es .link
 
   abbrev next : Phase
-  next = after stepOf (es ▷ e) .link .phase
+  next = after ours (es ▷ e) .link .phase
 
   abbrev left : Phase
   left = leftBy here e .phase
@@ -192,15 +192,15 @@ module _ (es : Log) (e : Event) where
 
   -- one that is taken
   module _ (n : numberAfter (takenOf es) e ≡ taken) where
-    no-success : In (handled here e .phase) → Says connectedReport (reportsTo stepOf es e) → ⊥
+    no-success : In (handled here e .phase) → Says connectedReport (reportsTo ours es e) → ⊥
     no-success i s =
         let c = says-completes here e (sym (ap (isAmong connectedReport) (reports-taken es e n)) ∙ s) in
         never-starting (handled here e .phase .state) (completes-becomes here e c .1) i
 
-    starting-taken : (In (here .phase) → Starting stepOf es) → In (handled here e .phase) → Starting stepOf (es ▷ e)
+    starting-taken : (In (here .phase) → Starting ours es) → In (handled here e .phase) → Starting ours (es ▷ e)
     starting-taken f i = by-way (leads here e i)
       where
-        by-way : Leads here e → Starting stepOf (es ▷ e)
+        by-way : Leads here e → Starting ours (es ▷ e)
         by-way (begins s d g) =
             starts n s (λ x. false≢true (sym (mark-not-idle es e .1 (x .1)) ∙ d)) (λ x. false≢true (sym (wrong-low e .1 (x .2)) ∙ g (x .0)))
         by-way (lets q c j) =
@@ -223,7 +223,7 @@ module _ (es : Log) (e : Event) where
         good k true q = q
         good k false q = absurd (w (k, mark-idle es e .0 idle, wrong-low e .0 q))
 
-    goes-taken : In (here .phase) → Not (Says connectedReport (reportsTo stepOf es e)) → Not (Says failedReport (reportsTo stepOf es e)) → In (handled here e .phase)
+    goes-taken : In (here .phase) → Not (Says connectedReport (reportsTo ours es e)) → Not (Says failedReport (reportsTo ours es e)) → In (handled here e .phase)
     unfolding handled acted
     goes-taken i f g = by-kind (e .kind) refl
       where
@@ -252,10 +252,10 @@ module _ (es : Log) (e : Event) where
         by-kind Other k = inside
 
   -- any
-  starting-more : (In (here .phase) → Starting stepOf es) → In next → Starting stepOf (es ▷ e)
+  starting-more : (In (here .phase) → Starting ours es) → In next → Starting ours (es ▷ e)
   starting-more f i = by-number (eqb (numberAfter (takenOf es) e) taken) refl
     where
-      by-number : (b : Bool) → eqb (numberAfter (takenOf es) e) taken ≡ b → Starting stepOf (es ▷ e)
+      by-number : (b : Bool) → eqb (numberAfter (takenOf es) e) taken ≡ b → Starting ours (es ▷ e)
       by-number true n =
           let k = eqb-true (numberAfter (takenOf es) e) taken n in
           starting-taken k f (carried _ _ (phase-taken k) i)
@@ -264,7 +264,7 @@ module _ (es : Log) (e : Event) where
           goes-on (f (carried _ _ (phase-refused k) i)) (λ s. k (says-caused es e connectedReport s .caused .number-is))
           (λ s. k (says-caused es e failedReport s .caused .number-is))
 
-  goes-more : In (here .phase) → Not (Says connectedReport (reportsTo stepOf es e)) → Not (Says failedReport (reportsTo stepOf es e)) → In next
+  goes-more : In (here .phase) → Not (Says connectedReport (reportsTo ours es e)) → Not (Says failedReport (reportsTo ours es e)) → In next
   goes-more i f g = by-number (eqb (numberAfter (takenOf es) e) taken) refl
     where
       by-number : (b : Bool) → eqb (numberAfter (takenOf es) e) taken ≡ b → In next
@@ -273,20 +273,20 @@ module _ (es : Log) (e : Event) where
           carried _ _ (sym (phase-taken k)) (goes-taken k i f g)
       by-number false n = carried _ _ (sym (phase-refused (eqb-false (numberAfter (takenOf es) e) taken n))) i
 
-fresh-out : In (after stepOf none .link .phase) → ⊥
+fresh-out : In (after ours none .link .phase) → ⊥
 unfolding after freshLink down isStarting
 fresh-out i = false≢true i
 
-starting-of : (es : Log) → In (after stepOf es .link .phase) → Starting stepOf es
+starting-of : (es : Log) → In (after ours es .link .phase) → Starting ours es
 starting-of none i = absurd (fresh-out i)
 starting-of (es ▷ e) i = starting-more es e (λ j. starting-of es j) i
 
-of-starting : {es : Log} → Starting stepOf es → In (after stepOf es .link .phase)
+of-starting : {es : Log} → Starting ours es → In (after ours es .link .phase)
 of-starting (starts {es = es} {e = e} n s i w) = carried _ _ (sym (phase-taken es e n)) (started-taken es e n s i w)
 of-starting (goes-on {es = es} {e = e} s f g) = goes-more es e (of-starting s) f g
 
 -- IN AN INITIALIZATION
-pub starting-exactly : (es : Log) → (isStarting (after stepOf es .link .phase .state) ≡ true) ↔ Starting stepOf es
+pub starting-exactly : (es : Log) → (isStarting (after ours es .link .phase .state) ≡ true) ↔ Starting ours es
 starting-exactly es = (λ i. starting-of es i, λ s. of-starting s)
 
 -- ---- neither in a session nor in an initialization
@@ -306,9 +306,9 @@ pub false-of : (b : Bool) → (b ≡ true → ⊥) → b ≡ false
 false-of true n = absurd (n refl)
 false-of false n = refl
 
-down-exactly : (es : Log) → InBytes es → (after stepOf es .link .phase .state ≡ Down) ↔ (Not (SomeSession stepOf es) × Not (Starting stepOf es))
+down-exactly : (es : Log) → InBytes es → (after ours es .link .phase .state ≡ Down) ↔ (Not (SomeSession ours es) × Not (Starting ours es))
 down-exactly es b =
-    let st = after stepOf es .link .phase .state in (
+    let st = after ours es .link .phase .state in (
       λ d.
           let x = down-off st d in
           (λ s. false≢true (sym (x .0) ∙ session-exactly es b .1 s), λ s. false≢true (sym (x .1) ∙ starting-exactly es .1 s)),
@@ -318,20 +318,20 @@ down-exactly es b =
 -- ---- the present window's end passed, and P3 max passed, as the event's reports say it
 module _ (es : Log) (e : Event) where
   abbrev l : Link
-  l = after stepOf es .link
+  l = after ours es .link
 
-  pub over-told : Tells failedReport windowOver (reportsTo stepOf es e) → Over (l .phase) (l .mark) (e .start)
+  pub over-told : Tells failedReport windowOver (reportsTo ours es e) → Over (l .phase) (l .mark) (e .start)
   over-told t = of-over _ _ _ e (of-fail _ _ _ e (tells-caused es e failedReport windowOver t .cause) refl) refl
 
-  idle-told : Tells downReport idleOver (reportsTo stepOf es e) → Idled (l .phase) (gapOf (l .mark) (e .start))
+  idle-told : Tells downReport idleOver (reportsTo ours es e) → Idled (l .phase) (gapOf (l .mark) (e .start))
   idle-told t = of-idle _ _ _ e (of-down _ _ _ e (tells-caused es e downReport idleOver t .cause) refl) refl
 
   -- down, as the history says it
   abbrev Gone : Type 0
   Gone =
-      (Not (SomeSession stepOf es) × Not (Starting stepOf es))
-      ⊎ Tells failedReport windowOver (reportsTo stepOf es e)
-      ⊎ Tells downReport idleOver (reportsTo stepOf es e)
+      (Not (SomeSession ours es) × Not (Starting ours es))
+      ⊎ Tells failedReport windowOver (reportsTo ours es e)
+      ⊎ Tells downReport idleOver (reportsTo ours es e)
 
   gone-of : InBytes es → numberAfter (takenOf es) e ≡ taken → IsDown (l .phase) (l .mark) (e .start) → Gone
   gone-of b n (inl d) = inl (down-exactly es b .0 d)
@@ -345,12 +345,12 @@ module _ (es : Log) (e : Event) where
 
 -- OUTSIDE
 pub outside-exactly : (es : Log) (e : Event) → InBytes es
-    → Says outsideReport (reportsTo stepOf es e)
+    → Says outsideReport (reportsTo ours es e)
     ↔ ((numberAfter (takenOf es) e ≡ taken)
     × (e .kind ≡ Byte)
-    × ((Not (SomeSession stepOf es) × Not (Starting stepOf es))
-    ⊎ Tells failedReport windowOver (reportsTo stepOf es e)
-    ⊎ Tells downReport idleOver (reportsTo stepOf es e)))
+    × ((Not (SomeSession ours es) × Not (Starting ours es))
+    ⊎ Tells failedReport windowOver (reportsTo ours es e)
+    ⊎ Tells downReport idleOver (reportsTo ours es e)))
 outside-exactly es e b = (
   λ s.
       let x = says-caused es e outsideReport s .caused in
@@ -363,8 +363,8 @@ outside-exactly es e b = (
 
 -- CLOSED
 pub closed-start-exactly : (es : Log) (e : Event)
-    → Tells failedReport closed (reportsTo stepOf es e)
-    ↔ ((numberAfter (takenOf es) e ≡ taken) × Starting stepOf es × (Starter e ⊎ (e .kind ≡ Drop)) × Not (Tells failedReport windowOver (reportsTo stepOf es e)))
+    → Tells failedReport closed (reportsTo ours es e)
+    ↔ ((numberAfter (takenOf es) e ≡ taken) × Starting ours es × (Starter e ⊎ (e .kind ≡ Drop)) × Not (Tells failedReport windowOver (reportsTo ours es e)))
 closed-start-exactly es e = (
   λ t.
       let x = tells-caused es e failedReport closed t in

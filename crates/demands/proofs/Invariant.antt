@@ -32,9 +32,10 @@ use Rattle.demands.proofs.Numbering.{Small, small-full, log-numbered}
 use Rattle.demands.proofs.Holding.{Holds, holds-order}
 use Rattle.demands.proofs.Tiling.{Tiled, end, tiled-append, sum-is, handles}
 use Rattle.demands.proofs.Counting.{tiled-sums, counted-event}
+use Rattle.demands.specs.Ours.{ours}
 
 -- of a host, the events taken and the reports made
-pub record Kept (h : Host) (log : Log) (xs : List Report) : Type 0 where
+pub record Kept (h : Host Link) (log : Log) (xs : List Report) : Type 0 where
   pub clock : h .link .clock ≡ clockOf log
   pub mark : h .link .mark ≡ markOf log
   pub order : markOf log .0 ≤ clockOf log .0
@@ -61,16 +62,16 @@ counts-small heard xs m t h k =
       damages = omega arith;
     }
 
-pub kept-small : (h : Host) (log : Log) (xs : List Report) → Kept h log xs → Small (h .counts)
+pub kept-small : (h : Host Link) (log : Log) (xs : List Report) → Kept h log xs → Small (h .counts)
 kept-small h log xs k =
     let o = holds-order (h .link .phase .state) (h .link .named) (h .link .heard) (k .holds) in
     subst Small (sym (k .counts))
     (counts-small (heardOf log) xs (h .link .named) (k .tiled) (omega (arith, o, k .heard, k .few, k .bound)) (omega (arith, k .few, k .bound)))
 
-not-full : (h : Host) (log : Log) (xs : List Report) → Kept h log xs → isFull (h .link .taken) (h .counts) ≡ leb most (countOf log)
+not-full : (h : Host Link) (log : Log) (xs : List Report) → Kept h log xs → isFull (h .link .taken) (h .counts) ≡ leb most (countOf log)
 not-full h log xs k = small-full (h .link .taken) (h .counts) (kept-small h log xs k) ∙ ap (leb most) (k .events)
 
-pub number-is : (h : Host) (log : Log) (xs : List Report) (e : Event) → Kept h log xs → numberOf (h .link) (h .counts) e ≡ numberAfter log e
+pub number-is : (h : Host Link) (log : Log) (xs : List Report) (e : Event) → Kept h log xs → numberOf (h .link) (h .counts) e ≡ numberAfter log e
 unfolding numberOf numberAfter
 number-is h log xs e k = rw (k .clock, not-full h log xs k)
 
@@ -89,30 +90,30 @@ timely log e q =
     let m : 4_000_000_000 ≤ countOf log → ⊥ = λ p. t .3 (inl p) in
     record { after = omega arith; forward = omega arith; room = omega arith }
 
-mark-order : (b : Bool) (to mark : Micros) → mark .0 ≤ to .0 → (if b then to else mark) .0 ≤ to .0
+pub mark-order : (b : Bool) (to mark : Micros) → mark .0 ≤ to .0 → (if b then to else mark) .0 ≤ to .0
 mark-order true to mark h = omega arith
 mark-order false to mark h = h
 
-mark-more : (b : Bool) (to mark mark′ : Micros) → mark ≡ mark′ → (if b then to else mark) ≡ (if b then to else mark′)
+pub mark-more : (b : Bool) (to mark mark′ : Micros) → mark ≡ mark′ → (if b then to else mark) ≡ (if b then to else mark′)
 mark-more true to mark mark′ e = refl
 mark-more false to mark mark′ e = e
 
-heard-more : (b : Bool) (v n : ℕ) (heard : List ℕ) → n ≡ length heard → (if b then n + 1 else n) ≡ length (heard ++ (if b then v ∷ [] else []))
+pub heard-more : (b : Bool) (v n : ℕ) (heard : List ℕ) → n ≡ length heard → (if b then n + 1 else n) ≡ length (heard ++ (if b then v ∷ [] else []))
 heard-more true v n heard e = omega (arith, length-append heard (v ∷ []))
 heard-more false v n heard e = omega (arith, length-append heard [])
 
-few-more : (b : Bool) (v n : ℕ) (heard : List ℕ) → length heard ≤ n → length (heard ++ (if b then v ∷ [] else [])) ≤ n + 1
+pub few-more : (b : Bool) (v n : ℕ) (heard : List ℕ) → length heard ≤ n → length (heard ++ (if b then v ∷ [] else [])) ≤ n + 1
 few-more true v n heard e = omega (arith, length-append heard (v ∷ []))
 few-more false v n heard e = omega (arith, length-append heard [])
 
 -- the host after it, and its reports
-abbrev takenHost : Host → Event → Host
+abbrev takenHost : Host Link → Event → Host Link
 takenHost h e = record {
   link = linkAfter (h .link) e (handled (h .link) e);
   counts = countedEvent (h .counts) (isByte (e .kind)) (handled (h .link) e .reports);
 }
 
-kept-taken : (h : Host) (log : Log) (xs : List Report) (e : Event) → Kept h log xs → numberAfter log e ≡ taken
+kept-taken : (h : Host Link) (log : Log) (xs : List Report) (e : Event) → Kept h log xs → numberAfter log e ≡ taken
     → Kept (takenHost h e) (log ▷ e) (xs ++ listed (handled (h .link) e .reports))
 unfolding linkAfter markAfter clockOf markOf countOf heardOf
 kept-taken h log xs e k q =
@@ -144,7 +145,7 @@ kept-taken h log xs e k q =
 
 -- ---- from a fresh link with zero counts, event by event
 abbrev pub KeptOf : Log → Type 0
-KeptOf es = Kept (after stepOf es) (takenOf es) (reportsOf stepOf es)
+KeptOf es = Kept (after ours es) (takenOf es) (reportsOf ours es)
 
 fresh-kept : KeptOf none
 unfolding after takenOf reportsOf freshLink zeroCounts clockOf markOf countOf heardOf countsOf bytesIn reportsIn down
@@ -182,18 +183,18 @@ module _ (l : Link) (c : Counts) (e : Event) where
 kept-by : (b : Bool) (es : Log) (e : Event) → eqb (numberAfter (takenOf es) e) taken ≡ b → KeptOf es → KeptOf (es ▷ e)
 unfolding after takenOf reportsOf stepOf takenBy refusedBy countsAfter listed
 kept-by true es e q k =
-    let l = after stepOf es .link in
-    let c = after stepOf es .counts in
-    let n = number-is (after stepOf es) (takenOf es) (reportsOf stepOf es) e k in
+    let l = after ours es .link in
+    let c = after ours es .counts in
+    let n = number-is (after ours es) (takenOf es) (reportsOf ours es) e k in
     let p : eqb (numberOf l c e) taken ≡ true = rw n q in
     rw (q, taken-answer l c e p)
-    (kept-taken (after stepOf es) (takenOf es) (reportsOf stepOf es) e k (eqb-true (numberAfter (takenOf es) e) taken q))
+    (kept-taken (after ours es) (takenOf es) (reportsOf ours es) e k (eqb-true (numberAfter (takenOf es) e) taken q))
 kept-by false es e q k =
-    let l = after stepOf es .link in
-    let c = after stepOf es .counts in
-    let n = number-is (after stepOf es) (takenOf es) (reportsOf stepOf es) e k in
+    let l = after ours es .link in
+    let c = after ours es .counts in
+    let n = number-is (after ours es) (takenOf es) (reportsOf ours es) e k in
     let p : eqb (numberOf l c e) taken ≡ false = rw n q in
-    rw (q, refused-answer l c e p, p, append-nil (reportsOf stepOf es)) k
+    rw (q, refused-answer l c e p, p, append-nil (reportsOf ours es)) k
 
 pub kept-of : (es : Log) → KeptOf es
 kept-of none = fresh-kept

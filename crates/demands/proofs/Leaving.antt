@@ -2,16 +2,13 @@
 -- wake-up of a wrong low, report 6 exactly where a first reply stayed out, and report 7 by its reason exactly where P3 max passed, at a drop, and at a
 -- restart; 6 and 7 come in a session only. (Report 7 reason 1 is `stops-exactly`.)
 -- Assumes nothing.
-use Prim.Native.Nat.{ℕ, _+_, _-_, _≤_, _<_}
-use mathlib.Core.Bool.{Bool, true, false, not, false≢true}
+use Prim.Native.Nat.{ℕ, _+_, _≤_, _<_}
+use mathlib.Core.Bool.{Bool, true, false, false≢true}
 use mathlib.Core.Path.{_≡_, refl, sym, ap, _∙_}
 use mathlib.Core.Logic.{_↔_, _⊎_, ⊎-elim}
 use native.Mathlib.Omega.{arith}
-use borrow.Author.Tests.{ltb-true, ltb-false, lt-ltb, le-ltb, not-true, not-false}
-use lib.Dec.{ltb}
 use Rattle.base.specs.Numbers.{taken}
 use Rattle.base.specs.Reports.{failedReport, noReplyReport, downReport, notIdleReport, noReason, wrongLow, idleOver, dropped, restarted}
-use Rattle.base.proofs.Tests.{and-split}
 use Rattle.units.specs.Units.{gapOf}
 use Rattle.units.specs.declared.Micros.{Micros}
 use Rattle.timing.specs.Timing.{isPassed}
@@ -26,15 +23,15 @@ use Rattle.phases.specs.declared.Phase.{Phase}
 use Rattle.moves.specs.Moves.{isIdle, isGoodLow}
 use Rattle.link.specs.declared.Link.{Link}
 use Rattle.listing.specs.Listing.{heldOf}
-use Rattle.link.specs.Stepping.{stepOf}
 use Rattle.link.proofs.Long.{quiet-connected}
 use Rattle.demands.specs.Logs.{Log, markOf, numberAfter, takenOf, InBytes}
 use Rattle.demands.specs.Refusals.{Not}
 use Rattle.demands.specs.Histories.{after, reportsTo, Says, Tells}
 use Rattle.demands.specs.Starts.{Low}
-use Rattle.demands.specs.Sessions.{Talk, Session, inForce, IsIn, gapBefore, SomeSession, NoReply, IdleOver}
+use Rattle.demands.specs.Sessions.{Talk, Session, inForce, gapBefore, SomeSession, NoReply, IdleOver}
 use Rattle.demands.specs.Accounts.{heldIn}
 use Rattle.demands.specs.Endings.{NotIdle, WrongLow, Downs}
+use Rattle.demands.proofs.Waking.{not-idle-time, idle-time, good-low}
 use Rattle.demands.proofs.Holding.{holds-some, holds-none}
 use Rattle.demands.proofs.Invariant.{kept-of}
 use Rattle.demands.proofs.Basics.{basics, held-is}
@@ -44,37 +41,10 @@ use Rattle.demands.proofs.Acting.{quiet-shut}
 use Rattle.demands.proofs.Causes.{DownFor as DownBy, stops, idles, drops, restarts, leftBy}
 use Rattle.demands.proofs.Causes.{of-fail, of-wait, of-down, of-not-idle, of-low, of-idle, of-dropped, of-restarted, was-connected, still-connected}
 use Rattle.demands.proofs.Causes.{waits-made, idles-made, dropped-made, restarted-made, not-idle-made, low-made, long-of, left-at, tells-caused, says-caused, made-at, says-made}
+use Rattle.demands.specs.Ours.{ours}
+use Rattle.demands.specs.Beside.{IsIn}
 
--- ---- idle long enough, low long enough
-not-idle-time : (mark start : Micros) → (isIdle mark start ≡ false) ↔ (start .0 < mark .0 + 300_000)
-unfolding isIdle
-not-idle-time mark start = (
-  λ i. let h = ltb-true (start .0 - mark .0) 300_000 (not-false (ltb (start .0 - mark .0) 300_000) i) in omega arith,
-  λ h. ap not (lt-ltb (start .0 - mark .0) 300_000 (omega arith)),
-)
-
-idle-time : (mark start : Micros) → (isIdle mark start ≡ true) ↔ (mark .0 + 300_000 ≤ start .0)
-unfolding isIdle
-idle-time mark start = (
-  λ i. let h = ltb-false (start .0 - mark .0) 300_000 (not-true (ltb (start .0 - mark .0) 300_000) i) in omega arith,
-  λ h. ap not (le-ltb (start .0 - mark .0) 300_000 (omega arith)),
-)
-
-good-low : (e : Event) → (isGoodLow (e .start) (e .end) ≡ true) ↔ Low e
-unfolding isGoodLow
-good-low e =
-    let d = e .end .0 - e .start .0 in (
-      λ g.
-          let x = and-split (not (ltb d 24_000)) (not (ltb 26_000 d)) g in
-          let a = ltb-false d 24_000 (not-true (ltb d 24_000) (x .0)) in
-          let b = ltb-false 26_000 d (not-true (ltb 26_000 d) (x .1)) in
-          (omega arith, omega arith),
-      λ w.
-          let a = w .0 in
-          let b = w .1 in
-          rw (le-ltb d 24_000 (omega arith), le-ltb 26_000 d (omega arith)) refl,
-    )
-
+-- ---- low long enough
 pub wrong-low : (e : Event) → (isGoodLow (e .start) (e .end) ≡ false) ↔ Not (Low e)
 wrong-low e = (λ f w. false≢true (sym f ∙ good-low e .1 w), by-test-of (isGoodLow (e .start) (e .end)) refl)
   where
@@ -83,13 +53,13 @@ wrong-low e = (λ f w. false≢true (sym f ∙ good-low e .1 w), by-test-of (isG
     by-test-of false g n = g
 
 -- the link's mark is the history's
-pub mark-not-idle : (es : Log) (e : Event) → (isIdle (after stepOf es .link .mark) (e .start) ≡ false) ↔ (e .start .0 < markOf (takenOf es) .0 + 300_000)
+pub mark-not-idle : (es : Log) (e : Event) → (isIdle (after ours es .link .mark) (e .start) ≡ false) ↔ (e .start .0 < markOf (takenOf es) .0 + 300_000)
 mark-not-idle es e =
     let m = ap (λ (x : Micros). isIdle x (e .start)) (basics es .mark) in
     let t = not-idle-time (markOf (takenOf es)) (e .start) in
     (λ i. t .0 (sym m ∙ i), λ h. m ∙ t .1 h)
 
-pub mark-idle : (es : Log) (e : Event) → (isIdle (after stepOf es .link .mark) (e .start) ≡ true) ↔ (markOf (takenOf es) .0 + 300_000 ≤ e .start .0)
+pub mark-idle : (es : Log) (e : Event) → (isIdle (after ours es .link .mark) (e .start) ≡ true) ↔ (markOf (takenOf es) .0 + 300_000 ≤ e .start .0)
 mark-idle es e =
     let m = ap (λ (x : Micros). isIdle x (e .start)) (basics es .mark) in
     let t = idle-time (markOf (takenOf es)) (e .start) in
@@ -97,18 +67,18 @@ mark-idle es e =
 
 -- NOT IDLE
 pub not-idle-exactly : (es : Log) (e : Event)
-    → Says notIdleReport (reportsTo stepOf es e) ↔ ((numberAfter (takenOf es) e ≡ taken) × NotIdle (takenOf es) e)
+    → Says notIdleReport (reportsTo ours es e) ↔ ((numberAfter (takenOf es) e ≡ taken) × NotIdle (takenOf es) e)
 not-idle-exactly es e = (
   λ s.
       let x = says-caused es e notIdleReport s .caused in
       let c = of-not-idle _ _ _ e (x .cause) refl in
       (x .number-is, (c .0, mark-not-idle es e .0 (c .1))),
-  λ c. says-made es e notIdleReport noReason (c .0) (not-idle-made (after stepOf es .link) e (long-of es) (c .1 .0) (mark-not-idle es e .1 (c .1 .1))),
+  λ c. says-made es e notIdleReport noReason (c .0) (not-idle-made (after ours es .link) e (long-of es) (c .1 .0) (mark-not-idle es e .1 (c .1 .1))),
 )
 
 -- A WRONG LOW
 pub wrong-low-exactly : (es : Log) (e : Event)
-    → Tells failedReport wrongLow (reportsTo stepOf es e) ↔ ((numberAfter (takenOf es) e ≡ taken) × WrongLow (takenOf es) e)
+    → Tells failedReport wrongLow (reportsTo ours es e) ↔ ((numberAfter (takenOf es) e ≡ taken) × WrongLow (takenOf es) e)
 wrong-low-exactly es e = (
   λ s.
       let x = tells-caused es e failedReport wrongLow s in
@@ -116,7 +86,7 @@ wrong-low-exactly es e = (
       (x .number-is, (c .0, mark-idle es e .0 (c .1), wrong-low e .0 (c .2))),
   λ c.
       made-at es e failedReport wrongLow (c .0)
-      (low-made (after stepOf es .link) e (long-of es) (c .1 .0) (mark-idle es e .1 (c .1 .1)) (wrong-low e .1 (c .1 .2))),
+      (low-made (after ours es .link) e (long-of es) (c .1 .0) (mark-idle es e .1 (c .1 .1)) (wrong-low e .1 (c .1 .2))),
 )
 
 -- ---- in a session: the reply, the windows and the bytes held are the link's
@@ -130,12 +100,12 @@ is-first : (reply : Reply) → reply ≡ First → isFirst reply ≡ true
 unfolding isFirst
 is-first reply q = ap isFirst q
 
-module _ (es : Log) (e : Event) (t : Talk) (b : InBytes es) (s : Session stepOf es t) where
+module _ (es : Log) (e : Event) (t : Talk) (b : InBytes es) (s : Session ours es t) where
   abbrev l : Link
-  l = after stepOf es .link
+  l = after ours es .link
 
   abbrev held : ℕ
-  held = heldIn stepOf es
+  held = heldIn ours es
 
   abbrev gap : Micros
   gap = gapBefore (takenOf es) e
@@ -186,30 +156,30 @@ module _ (es : Log) (e : Event) (t : Talk) (b : InBytes es) (s : Session stepOf 
   )
 
 -- NO REPLY
-pub no-reply-exactly : (es : Log) (e : Event) (t : Talk) → InBytes es → Session stepOf es t
-    → Says noReplyReport (reportsTo stepOf es e)
-    ↔ ((numberAfter (takenOf es) e ≡ taken) × NoReply t (heldIn stepOf es) (gapBefore (takenOf es) e))
+pub no-reply-exactly : (es : Log) (e : Event) (t : Talk) → InBytes es → Session ours es t
+    → Says noReplyReport (reportsTo ours es e)
+    ↔ ((numberAfter (takenOf es) e ≡ taken) × NoReply t (heldIn ours es) (gapBefore (takenOf es) e))
 no-reply-exactly es e t b s = (
   λ x.
       let c = says-caused es e noReplyReport x .caused in
       (c .number-is, waited-is es e t b s .0 (of-wait _ _ _ e (c .cause) refl)),
-  λ x. says-made es e noReplyReport noReason (x .0) (waits-made (after stepOf es .link) e (long-of es) (waited-is es e t b s .1 (x .1))),
+  λ x. says-made es e noReplyReport noReason (x .0) (waits-made (after ours es .link) e (long-of es) (waited-is es e t b s .1 (x .1))),
 )
 
 -- DOWN: by P3 max, by a drop, by an address or wake-up
-module _ (es : Log) (e : Event) (t : Talk) (b : InBytes es) (s : Session stepOf es t) where
+module _ (es : Log) (e : Event) (t : Talk) (b : InBytes es) (s : Session ours es t) where
   abbrev here : Link
-  here = after stepOf es .link
+  here = after ours es .link
 
   -- what time leaves connected: P3 max has not passed
-  stays-up : isConnected (leftBy here e .phase .state) ≡ true → Not (IdleOver t (heldIn stepOf es) (gapBefore (takenOf es) e))
+  stays-up : isConnected (leftBy here e .phase .state) ≡ true → Not (IdleOver t (heldIn ours es) (gapBefore (takenOf es) e))
   stays-up c i = was-connected (here .phase) (here .mark) (e .start) _ (left-at es e) c .1 (idled-is es e t b s .1 i)
 
-  up-stays : Not (IdleOver t (heldIn stepOf es) (gapBefore (takenOf es) e)) → isConnected (leftBy here e .phase .state) ≡ true
+  up-stays : Not (IdleOver t (heldIn ours es) (gapBefore (takenOf es) e)) → isConnected (leftBy here e .phase .state) ≡ true
   up-stays n =
       still-connected (here .phase) (here .mark) (e .start) _ (left-at es e) (session-link es t b s .connected) (λ i. n (idled-is es e t b s .0 i))
 
-  downs-by : Downs stepOf es e t
+  downs-by : Downs ours es e t
   downs-by = record {
     idle = (
       λ x.
@@ -233,7 +203,7 @@ module _ (es : Log) (e : Event) (t : Talk) (b : InBytes es) (s : Session stepOf 
     );
   }
 
-pub downs-exactly : (es : Log) (e : Event) (t : Talk) → InBytes es → Session stepOf es t → Downs stepOf es e t
+pub downs-exactly : (es : Log) (e : Event) (t : Talk) → InBytes es → Session ours es t → Downs ours es e t
 downs-exactly es e t b s = downs-by es e t b s
 
 -- BOTH IN A SESSION ONLY
@@ -244,8 +214,8 @@ down-connected p q mark e v (drops c d) = was-connected p mark (e .start) q v c 
 down-connected p q mark e v (restarts c d) = was-connected p mark (e .start) q v c .0
 
 pub only-in-session : (es : Log) (e : Event) → InBytes es
-    → Says noReplyReport (reportsTo stepOf es e) ⊎ Says downReport (reportsTo stepOf es e) → SomeSession stepOf es
+    → Says noReplyReport (reportsTo ours es e) ⊎ Says downReport (reportsTo ours es e) → SomeSession ours es
 only-in-session es e b x =
     session-exactly es b .0
-    (⊎-elim (λ w. quiet-connected (after stepOf es .link .phase .state) (of-wait _ _ _ e (says-caused es e noReplyReport w .caused .cause) refl .0))
+    (⊎-elim (λ w. quiet-connected (after ours es .link .phase .state) (of-wait _ _ _ e (says-caused es e noReplyReport w .caused .cause) refl .0))
     (λ d. down-connected _ _ _ e (left-at es e) (of-down _ _ _ e (says-caused es e downReport d .caused .cause) refl)) x)

@@ -25,10 +25,10 @@ use Rattle.reports.specs.Reporting.{namesBytes, reportOf, appended, listed, tol
 use Rattle.reports.specs.declared.Report.{Report}
 use Rattle.reports.specs.declared.Run.{Run}
 use Rattle.link.specs.Handling.{passed, hearing, begun, handled, linkAfter}
-use Rattle.link.specs.Stepping.{takenBy, stepOf}
+use Rattle.link.specs.Stepping.{takenBy}
 use Rattle.link.specs.declared.Link.{Link}
 use Rattle.demands.specs.Logs.{Log, none, _▷_, markOf, heardOf, numberAfter, takenOf}
-use Rattle.demands.specs.Histories.{after, answerTo}
+use Rattle.demands.specs.Histories.{reportsTo, after}
 use Rattle.demands.specs.Connecting.{Since, here, tick, byte, Connects, Connected}
 use Rattle.demands.proofs.Holding.{Holds}
 use Rattle.demands.proofs.Tiling.{passed-heard, shut-heard, passed-flows, shut-none, sum-is}
@@ -36,9 +36,11 @@ use Rattle.demands.proofs.Invariant.{timely, kept-of}
 use Rattle.demands.proofs.Basics.{basics, answer-taken}
 use Rattle.demands.proofs.Entering.{Open}
 use Rattle.demands.proofs.Completing.{connecting, completes-run}
-use Rattle.demands.proofs.Running.{startOn, phaseOn, lastEnd, Starts, Runs, Behind, Inv, open-early, back-start, back-open, back-tick}
+use Rattle.demands.proofs.Running.{startOn, phaseOn, lastEnd, Starts, Runs, runs-starts, Behind, Inv, open-early, back-start, back-open, back-tick}
 use Rattle.demands.proofs.Running.{back-byte, no-since, completes-of}
-use Rattle.demands.proofs.Exactly.{runs-starts, done-of, ended-by, behind, link-taken, link-refused, log-taken, log-refused, inv-of}
+use Rattle.demands.proofs.Exactly.{done-of, ended-by, behind, link-taken, link-refused, log-taken, log-refused, inv-of}
+use Rattle.demands.specs.Beside.{ConnectedLink}
+use Rattle.demands.specs.Ours.{ours, ourAnswer}
 
 -- ---- THE INVARIANT: while the link is in the initialization that a log ends in, the bytes named are those before its start
 abbrev Told : Link → Log → Type 0
@@ -77,15 +79,15 @@ told-on : (l : Link) (log : Log) (e : Event) → Behind l log e → Inv l log �
 unfolding linkAfter
 told-on l log e t inv h g n = told-by l log e t inv h g n
 
-told-next : (b : Bool) (es : Log) (e : Event) → eqb (numberAfter (takenOf es) e) taken ≡ b → Told (after stepOf es .link) (takenOf es)
-    → Told (after stepOf (es ▷ e) .link) (takenOf (es ▷ e))
+told-next : (b : Bool) (es : Log) (e : Event) → eqb (numberAfter (takenOf es) e) taken ≡ b → Told (after ours es .link) (takenOf es)
+    → Told (after ours (es ▷ e) .link) (takenOf (es ▷ e))
 told-next true es e q n =
     let t = eqb-true _ _ q in
     rw (link-taken es e t, log-taken es e t)
-    (told-on (after stepOf es .link) (takenOf es) e (behind es e t) (inv-of es) (basics es .heard) (kept-of es .holds) n)
+    (told-on (after ours es .link) (takenOf es) e (behind es e t) (inv-of es) (basics es .heard) (kept-of es .holds) n)
 told-next false es e q n = rw (link-refused es e (eqb-false _ _ q), log-refused es e q) n
 
-told-of : (es : Log) → Told (after stepOf es .link) (takenOf es)
+told-of : (es : Log) → Told (after ours es .link) (takenOf es)
 unfolding takenOf
 told-of none = λ a before bs s. absurd (no-since a before bs s)
 told-of (es ▷ e) = told-next (eqb (numberAfter (takenOf es) e) taken) es e refl (told-of es)
@@ -100,7 +102,7 @@ starts-apart Tick m a s = refl
 starts-apart Drop m a s = refl
 starts-apart Other m a s = refl
 
-since-heard : {a : Event} {before log bs : Log} → isByte (a .kind) ≡ false → Since a before log bs
+pub since-heard : {a : Event} {before log bs : Log} → isByte (a .kind) ≡ false → Since a before log bs
     → length (heardOf log) ≡ length (heardOf before) + length (heardOf bs)
 unfolding heardOf isByte
 since-heard {a} {before} h here = rw h (omega (arith, length-append (heardOf before) []))
@@ -118,7 +120,7 @@ unfolding told begun reportOf appended listed namesBytes
 run-reports l e s = refl
 
 handled-names : (l : Link) (log : Log) (e : Event) → Behind l log e → Inv l log → l .heard ≡ length (heardOf log) → l .heard < 4_000_000_000
-    → Told l log → (c : Connects log e) → Connected log e c (takenBy l e)
+    → Told l log → (c : Connects log e) → ConnectedLink log e c (takenBy l e)
 unfolding takenBy linkAfter told connected starting
 handled-names l log e t inv h few n c =
     let m = markOf (c .before) in
@@ -133,8 +135,11 @@ handled-names l log e t inv h few n c =
     let phase : handled l e .phase ≡ connected (startOn (c .start) (c .bytes)) =
     ap (λ (x : Run). x .phase) run ∙ ap (λ (p : Phase). connected (p .start)) (f .1) in
     record {
-      reports =
-          ap (λ (x : Run). listed (x .reports)) run ∙ run-reports l e (l .phase .start) ∙ ap₂ (λ (a b : ℕ). (reportBy a b (e .end) ∷ [])) named bytes;
+      answer = record {
+        reports =
+            ap (λ (x : Run). listed (x .reports)) run ∙ run-reports l e (l .phase .start) ∙ ap₂ (λ (a b : ℕ). (reportBy a b (e .end) ∷ [])) named bytes;
+        good = d .3;
+      };
       state = ap (λ (p : Phase). p .state) phase;
       kb1 = ap (λ (p : Phase). p .start .kb1) phase ∙ d .1;
       kb2 = ap (λ (p : Phase). p .start .kb2) phase ∙ d .2;
@@ -144,12 +149,16 @@ handled-names l log e t inv h few n c =
       request = ap (λ (p : Phase). p .request) phase;
     }
 
--- THE THEOREM
-pub connects-names : (es : Log) (e : Event) → numberAfter (takenOf es) e ≡ taken → (c : Connects (takenOf es) e)
-    → Connected (takenOf es) e c (answerTo stepOf es e)
-connects-names es e q c =
-    let l = after stepOf es .link in
+-- THE THEOREM, and its half that anyone can see
+pub connects-link : (es : Log) (e : Event) → numberAfter (takenOf es) e ≡ taken → (c : Connects (takenOf es) e)
+    → ConnectedLink (takenOf es) e c (ourAnswer es e)
+connects-link es e q c =
+    let l = after ours es .link in
     let b = basics es in
     let few : l .heard < 4_000_000_000 = omega (arith, b .heard, b .few, timely (takenOf es) e q .room) in
-    subst (Connected (takenOf es) e c) (sym (answer-taken es e q))
+    subst (ConnectedLink (takenOf es) e c) (sym (answer-taken es e q))
     (handled-names l (takenOf es) e (behind es e q) (inv-of es) (b .heard) few (told-of es) c)
+
+pub connects-names : (es : Log) (e : Event) → numberAfter (takenOf es) e ≡ taken → (c : Connects (takenOf es) e)
+    → Connected (takenOf es) e c (reportsTo ours es e)
+connects-names es e q c = connects-link es e q c .answer

@@ -28,10 +28,10 @@ use Rattle.moves.specs.Moves.{isSilent}
 use Rattle.reports.specs.declared.Report.{Report}
 use Rattle.reports.specs.declared.Run.{Run}
 use Rattle.link.specs.Handling.{passed, byteHeard, acted, begun, handled, linkAfter}
-use Rattle.link.specs.Stepping.{takenBy, stepOf}
+use Rattle.link.specs.Stepping.{takenBy}
 use Rattle.link.specs.declared.Link.{Link}
 use Rattle.link.specs.declared.Answer.{Answer}
-use Rattle.link.proofs.Three.{passedTells, actedTells, handledTells}
+use Rattle.link.specs.Telling.{passedTells, actedTells, handledTells}
 use Rattle.demands.specs.Logs.{Log, _▷_, heardIn, numberAfter, takenOf, InBytes, Begins, whole, more}
 use Rattle.demands.specs.Histories.{after, reportsTo, Says, isAmong, Among}
 use Rattle.demands.specs.Accounts.{heldIn}
@@ -43,7 +43,7 @@ use Rattle.demands.proofs.Holding.{holds-some}
 use Rattle.demands.proofs.Tiling.{sum-is}
 use Rattle.demands.proofs.Invariant.{kept-of}
 use Rattle.demands.proofs.Basics.{basics, held-is, answer-taken, calm}
-use Rattle.demands.proofs.Names.{connects-names}
+use Rattle.demands.proofs.Names.{connects-link}
 use Rattle.demands.proofs.Completing.{acted-byte}
 use Rattle.demands.proofs.Listening.{byte-longer}
 use Rattle.demands.proofs.Recent.{open-stays}
@@ -57,10 +57,11 @@ use Rattle.demands.proofs.Passing.{Idled, open-or}
 use Rattle.demands.proofs.Acting.{quiet-shut}
 use Rattle.demands.proofs.Leaving.{quiet-holds, holds-quiet, replied, same-gap, same-p2, idled-is, downs-exactly}
 use Rattle.demands.proofs.Elapsing.{StaysOut, run-open, run-quiet, first-silent, first-named, byte-named}
+use Rattle.demands.specs.Ours.{ours}
 
 -- the reply that may come when the byte b comes behind these events
 abbrev pub replyOf : Log → Event → Talk → Reply
-replyOf before b t = replyAt t (heldIn stepOf before) (gapBefore (takenOf before) b)
+replyOf before b t = replyAt t (heldIn ours before) (gapBefore (takenOf before) b)
 
 -- ---- silence in numbers
 pub silent-is : (gap : Micros) → (isSilent gap ≡ true) ↔ (20_000 < gap .0)
@@ -68,10 +69,10 @@ unfolding isSilent
 silent-is gap = (λ s. ltb-true 20_000 (gap .0) s, λ s. lt-ltb 20_000 (gap .0) s)
 
 -- while something is open, bytes are held
-pub open-holds : (es : Log) → isOpen (after stepOf es .link .phase .state) ≡ true → 0 < heldIn stepOf es
+pub open-holds : (es : Log) → isOpen (after ours es .link .phase .state) ≡ true → 0 < heldIn ours es
 unfolding heldOf
 open-holds es p =
-    let l = after stepOf es .link in
+    let l = after ours es .link in
     let n = holds-some (l .phase .state) (l .named) (l .heard) p (kept-of es .holds) in
     let h = held-is es in
     omega arith
@@ -82,13 +83,13 @@ down-loud p q = ap (λ (x : Phase). isQuiet (x .state)) q
 
 -- ---- what opening a message is, by the reports of the byte's event
 pub record Opening (before : Log) (b : Event) (t : Talk) : Type 0 where
-  pub up : isAmong downReport (reportsTo stepOf before b) ≡ false
-  pub talk : talkAfter t (b .side) (heardIn (before ▷ b)) (reportsTo stepOf before b) ≡ withReply t (replyOf before b t)
-  pub alone : after stepOf (before ▷ b) .link .named ≡ length (heardIn before)
+  pub up : isAmong downReport (reportsTo ours before b) ≡ false
+  pub talk : talkAfter t (b .side) (heardIn (before ▷ b)) (reportsTo ours before b) ≡ withReply t (replyOf before b t)
+  pub alone : after ours (before ▷ b) .link .named ≡ length (heardIn before)
 
-module _ (before : Log) (b : Event) (t : Talk) (i : InBytes before) (o : OpensIn stepOf before b t) where
+module _ (before : Log) (b : Event) (t : Talk) (i : InBytes before) (o : OpensIn ours before b t) where
   abbrev l : Link
-  l = after stepOf before .link
+  l = after ours before .link
 
   abbrev gap : Micros
   gap = gapOf (l .mark) (b .start)
@@ -120,7 +121,7 @@ module _ (before : Log) (b : Event) (t : Talk) (i : InBytes before) (o : OpensIn
   unfolding begun replyAt
   open-left p =
       settled-left (run-open (begun l b) (l .mark) (b .start) p (open-silent p) not-idled)
-      (rw (lt-ltb 0 (heldIn stepOf before) (open-holds before p)) refl)
+      (rw (lt-ltb 0 (heldIn ours before) (open-holds before p)) refl)
 
   -- the link's test is the history's
   same-test : StaysOut (l .phase) (l .mark) (b .start) ≡ (isFirst (t .reply) && isPassed (inForce t .p2max) (gapBefore (takenOf before) b))
@@ -148,7 +149,7 @@ module _ (before : Log) (b : Event) (t : Talk) (i : InBytes before) (o : OpensIn
   abbrev passing : List Report
   passing = passedTells (begun l b) (l .mark) (b .start)
 
-  reports-are : reportsTo stepOf before b ≡ passing
+  reports-are : reportsTo ours before b ≡ passing
   unfolding handledTells
   reports-are =
       reports-made before b (o .number)
@@ -156,21 +157,21 @@ module _ (before : Log) (b : Event) (t : Talk) (i : InBytes before) (o : OpensIn
       ∙ ap (λ (rs : List Report). passing ++ rs) (first-silent s b (l .mark) (left .quiet))
       ∙ append-nil passing
 
-  named-is : after stepOf (before ▷ b) .link .named ≡ s .named
+  named-is : after ours (before ▷ b) .link .named ≡ s .named
   unfolding after takenBy linkAfter handled
   named-is =
       ap (λ (x : Answer). x .link .named) (answer-taken before b (o .number))
       ∙ ap (λ (x : Run). x .named) (acted-byte s b (l .mark) (o .kind))
       ∙ first-named s b (l .mark) (left .quiet)
 
-  passes : Passes before b (reportsTo stepOf before b) t passing s
+  passes : Passes before b (reportsTo ours before b) t passing s
   unfolding begun
-  passes = passed-step before b (reportsTo stepOf before b) t (begun l b) (l .mark) (b .start) at-link
+  passes = passed-step before b (reportsTo ours before b) t (begun l b) (l .mark) (b .start) at-link
 
   pub opening : Opening before b t
   opening = by-way passes
     where
-      by-way : Passes before b (reportsTo stepOf before b) t passing s → Opening before b t
+      by-way : Passes before b (reportsTo ours before b) t passing s → Opening before b t
       by-way (up reply n f q a) = record {
         up = ap (isAmong downReport) reports-are ∙ n;
         talk = ap (talkAfter t (b .side) (heardIn (before ▷ b))) reports-are ∙ q ∙ ap (withReply t) (sym (a .fits .reply) ∙ left .reply);
@@ -181,7 +182,7 @@ module _ (before : Log) (b : Event) (t : Talk) (i : InBytes before) (o : OpensIn
   -- so it is a first byte of the session behind it
   pub first-behind : inner.FirstOf (withReply t (replyOf before b t)) before b
   first-behind = record {
-    session = subst (Session stepOf (before ▷ b)) (opening .talk) (lasts (o .session) (λ z. false≢true (sym (opening .up) ∙ z)));
+    session = subst (Session ours (before ▷ b)) (opening .talk) (lasts (o .session) (λ z. false≢true (sym (opening .up) ∙ z)));
     kind = o .kind;
     number = o .number;
     alone = opening .alone;
@@ -190,32 +191,32 @@ module _ (before : Log) (b : Event) (t : Talk) (i : InBytes before) (o : OpensIn
 -- ---- THE OTHER WAY ROUND: a first byte of the session behind it opens a message in the one before it
 pub record Came (before : Log) (b : Event) (u : Talk) : Type 0 where
   pub talk : Talk
-  pub opens : OpensIn stepOf before b talk
+  pub opens : OpensIn ours before b talk
   pub same : u ≡ withReply talk (replyOf before b talk)
 
 -- a byte that completes an initialization is named by its report
-not-connecting : (before : Log) (b : Event) → numberAfter (takenOf before) b ≡ taken → b .kind ≡ Byte → isQuiet (after stepOf (before ▷ b) .link .phase .state) ≡ true
-    → after stepOf (before ▷ b) .link .named ≡ length (heardIn before) → ⊥
+not-connecting : (before : Log) (b : Event) → numberAfter (takenOf before) b ≡ taken → b .kind ≡ Byte → isQuiet (after ours (before ▷ b) .link .phase .state) ≡ true
+    → after ours (before ▷ b) .link .named ≡ length (heardIn before) → ⊥
 not-connecting before b n k q a =
-    let x = quiet-shut (after stepOf (before ▷ b) .link .phase .state) q in
+    let x = quiet-shut (after ours (before ▷ b) .link .phase .state) q in
     let c = calm (before ▷ b) (x .0) (x .1) in
     let h = basics (before ▷ b) .heard in
     let y = byte-longer before b n k in
     omega arith
 
 connected-quiet : (before : Log) (b : Event) → numberAfter (takenOf before) b ≡ taken → Connects (takenOf before) b
-    → isQuiet (after stepOf (before ▷ b) .link .phase .state) ≡ true
+    → isQuiet (after ours (before ▷ b) .link .phase .state) ≡ true
 unfolding after isQuiet
-connected-quiet before b n c = ap isQuiet (connects-names before b n c .state)
+connected-quiet before b n c = ap isQuiet (connects-link before b n c .state)
 
-module _ (before : Log) (b : Event) (t : Talk) (i : InBytes before) (session : Session stepOf before t) (up : Says downReport (reportsTo stepOf before b) → ⊥)
-    (kind : b .kind ≡ Byte) (number : numberAfter (takenOf before) b ≡ taken) (alone : after stepOf (before ▷ b) .link .named ≡ length (heardIn before)) where
+module _ (before : Log) (b : Event) (t : Talk) (i : InBytes before) (session : Session ours before t) (up : Says downReport (reportsTo ours before b) → ⊥)
+    (kind : b .kind ≡ Byte) (number : numberAfter (takenOf before) b ≡ taken) (alone : after ours (before ▷ b) .link .named ≡ length (heardIn before)) where
   abbrev here : Link
-  here = after stepOf before .link
+  here = after ours before .link
 
   -- a byte that comes in time goes on with what is open
   goes-on : isOpen (here .phase .state) ≡ true → isSilent (gapOf (here .mark) (b .start)) ≡ false
-      → after stepOf (before ▷ b) .link .named ≡ byteHeard (begun here b) b (here .mark) .named
+      → after ours (before ▷ b) .link .named ≡ byteHeard (begun here b) b (here .mark) .named
   unfolding after takenBy linkAfter handled begun
   goes-on o s =
       ap (λ (x : Answer). x .link .named) (answer-taken before b number)
@@ -231,27 +232,27 @@ module _ (before : Log) (b : Event) (t : Talk) (i : InBytes before) (session : S
       let c = sum-is (here .heard) 1 (omega (arith, x .heard, x .few, x .bound)) in
       ⊎-elim (λ z. omega (arith, x .heard)) (λ z. omega (arith, x .heard)) (byte-named (begun here b) b (here .mark))
 
-  was-alone : (heldIn stepOf before ≡ 0) ⊎ (20_000 < gapBefore (takenOf before) b .0)
+  was-alone : (heldIn ours before ≡ 0) ⊎ (20_000 < gapBefore (takenOf before) b .0)
   was-alone =
-      open-or ((heldIn stepOf before ≡ 0) ⊎ (20_000 < gapBefore (takenOf before) b .0)) (here .phase .state) (session-at i session .fits .connected)
+      open-or ((heldIn ours before ≡ 0) ⊎ (20_000 < gapBefore (takenOf before) b .0)) (here .phase .state) (session-at i session .fits .connected)
       (λ o. by-silence o (isSilent (gapOf (here .mark) (b .start))) refl) (λ q. inl (quiet-holds before b t i session q))
     where
       by-silence : isOpen (here .phase .state) ≡ true → (c : Bool) → isSilent (gapOf (here .mark) (b .start)) ≡ c
-          → (heldIn stepOf before ≡ 0) ⊎ (20_000 < gapBefore (takenOf before) b .0)
+          → (heldIn ours before ≡ 0) ⊎ (20_000 < gapBefore (takenOf before) b .0)
       by-silence o true s = inr (subst (λ (g : Micros). 20_000 < g .0) (same-gap before b t i session) (silent-is (gapOf (here .mark) (b .start)) .0 s))
       by-silence o false s = absurd (not-later o s)
 
-  opened-in : OpensIn stepOf before b t
+  opened-in : OpensIn ours before b t
   opened-in = record {
     session = session;
     kind = kind;
     number = number;
     alone = was-alone;
-    lasts = λ x. up (tells-says downReport idleOver (reportsTo stepOf before b) (downs-exactly before b t i session .idle .1 (number, x)));
+    lasts = λ x. up (tells-says downReport idleOver (reportsTo ours before b) (downs-exactly before b t i session .idle .1 (number, x)));
   }
 
-came-by : (before : Log) (b : Event) (u : Talk) → InBytes before → Session stepOf (before ▷ b) u → b .kind ≡ Byte → numberAfter (takenOf before) b ≡ taken
-    → after stepOf (before ▷ b) .link .named ≡ length (heardIn before) → Came before b u
+came-by : (before : Log) (b : Event) (u : Talk) → InBytes before → Session ours (before ▷ b) u → b .kind ≡ Byte → numberAfter (takenOf before) b ≡ taken
+    → after ours (before ▷ b) .link .named ≡ length (heardIn before) → Came before b u
 came-by before b u i (opens n c) k m a = absurd (not-connecting before b m k (connected-quiet before b n c) a)
 came-by before b u i (lasts {t = t} front stays) k m a =
     let o = opened-in before b t i front stays k m a in
@@ -270,7 +271,7 @@ pub front-bytes : {before es : Log} {b : Event} → Begins (before ▷ b) es →
 unfolding InBytes
 front-bytes x i = begins-bytes x i .0
 
-turned-in : (es : Log) (r : Report) → InBytes es → inner.Turned es r → Turns stepOf es r
+turned-in : (es : Log) (r : Report) → InBytes es → inner.Turned es r → Turns ours es r
 turned-in es r i x =
     let c = came (x .before) (x .byte) (x .talk) (front-bytes (x .begins) i) (x .first) in
     let gap = gapBefore (takenOf (x .before)) (x .byte) in
@@ -281,14 +282,14 @@ turned-in es r i x =
     }
 
 -- A MESSAGE'S FIRST BYTE WAS EARLY OR STRAY exactly if its report says so
-pub turns-exactly : (es : Log) (e : Event) (r : Report) → InBytes (es ▷ e) → Among r (reportsTo stepOf es e)
-    → (r .number ≡ frameReport) ⊎ (r .number ≡ damageReport) → Turns stepOf (es ▷ e) r
+pub turns-exactly : (es : Log) (e : Event) (r : Report) → InBytes (es ▷ e) → Among r (reportsTo ours es e)
+    → (r .number ≡ frameReport) ⊎ (r .number ≡ damageReport) → Turns ours (es ▷ e) r
 turns-exactly es e r i a n = turned-in (es ▷ e) r i (turns-behind es e r i a n)
 
 -- ---- A MESSAGE by the session before its first byte and by the one behind it: they differ in the reply that may come, and in nothing else
 record Said (t : Talk) (b : Event) (log : Log) (bytes : List ℕ) : Type 0 where
   reply : Reply
-  spoken : Speaks stepOf (withReply t reply) b log bytes
+  spoken : Speaks ours (withReply t reply) b log bytes
 
 said-first : (before : Log) (b : Event) (u : Talk) → inner.Starts u before b → Came before b u → Said u b (before ▷ b) (b .value ∷ [])
 said-first before b u s c =
@@ -296,7 +297,7 @@ said-first before b u s c =
     let same : c .talk ≡ withReply u (c .talk .reply) = ap (λ (x : Talk). withReply x (c .talk .reply)) (sym (c .same)) in
     record {
       reply = c .talk .reply;
-      spoken = subst (λ (x : Talk). Speaks stepOf x b (before ▷ b) (b .value ∷ [])) same (begins (record {
+      spoken = subst (λ (x : Talk). Speaks ours x b (before ▷ b) (b .value ∷ [])) same (begins (record {
         opens = c .opens;
         timely = subst (λ (x : Talk). Early x (x .reply) gap b → ⊥) (c .same) (s .timely);
         expected = subst (λ (x : Talk). Stray x (x .reply) gap b → ⊥) (c .same) (s .expected);
@@ -314,7 +315,7 @@ record Heard (t : Talk) (b : Event) (log : Log) (bytes : List ℕ) : Type 0 wher
   reply : Reply
   spoken : inner.Speaking (withReply t reply) b log bytes
 
-heard : {t : Talk} {b : Event} {log : Log} {bytes : List ℕ} → InBytes log → Speaks stepOf t b log bytes → Heard t b log bytes
+heard : {t : Talk} {b : Event} {log : Log} {bytes : List ℕ} → InBytes log → Speaks ours t b log bytes → Heard t b log bytes
 unfolding InBytes
 heard {t = t} {b = b} i (begins {before = before} o) = record {
   reply = replyOf before b t;
@@ -326,7 +327,7 @@ heard i (grows s r n k d m) = let x = heard (i .0) s in record { reply = x .repl
 
 -- A BYTE IS REPORTED AS A FRAME exactly if it ends a message of the session in bytes that `read` takes, and the report names these
 pub frames-exactly : (es : Log) (e : Event) (bytes : List ℕ) → InBytes (es ▷ e)
-    → ReportsFrame (heardIn (es ▷ e)) (reportsTo stepOf es e) bytes ↔ EndsInFrame stepOf es e bytes
+    → ReportsFrame (heardIn (es ▷ e)) (reportsTo ours es e) bytes ↔ EndsInFrame ours es e bytes
 frames-exactly es e bytes i = (
   λ r.
       let x = frames-behind es e bytes i .0 r in

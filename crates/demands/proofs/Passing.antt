@@ -23,7 +23,7 @@ use Rattle.reports.specs.Reporting.{moved}
 use Rattle.reports.specs.declared.Report.{Report}
 use Rattle.reports.specs.declared.Run.{Run}
 use Rattle.link.specs.Handling.{passed}
-use Rattle.link.proofs.Three.{tells, passedTells}
+use Rattle.link.specs.Telling.{tells, passedTells}
 use Rattle.link.proofs.Long.{Long, open-connected, quiet-connected}
 use Rattle.demands.specs.Histories.{Tells}
 use Rattle.demands.proofs.Tiling.{moved-phase}

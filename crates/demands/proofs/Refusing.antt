@@ -7,7 +7,7 @@ use mathlib.Core.List.{List}
 use mathlib.Core.Logic.{_↔_, _⊎_, inl, inr, ⊎-elim}
 use mathlib.Core.Path.{_≡_, refl, sym, ap, subst, _∙_}
 use native.Mathlib.Omega.{arith}
-use borrow.Author.Tests.{ltb-true, lt-ltb, leb-true, le-leb, eqb-true, eq-eqb, eqb-false, ne-eqb, not-true, not-false}
+use borrow.Author.Tests.{ltb-true, lt-ltb, leb-true, le-leb, lt-leb, eqb-true, eq-eqb, eqb-false, ne-eqb, not-true, not-false}
 use lib.Dec.{eqb, leb, ltb}
 use lib.ListN.{length, getD, take}
 use Rattle.base.specs.Choice.{if_then_else_}
@@ -25,8 +25,9 @@ use Rattle.timing.specs.declared.Windows.{Windows}
 use Rattle.timing.specs.declared.Codes.{Codes}
 use Rattle.timing.specs.declared.Decoded.{Decoded}
 use Rattle.timing.specs.declared.Encoded.{Encoded}
-use Rattle.timing.proofs.RoundTrip.{HasCodes, encoded-test, codes-exactly, no-codes}
-use Rattle.frame.specs.Layout.{formNumbered, formatForm, extraCount, headSize, total, checksumOf, isNowhere}
+use Rattle.timing.specs.Coded.{HasCodes}
+use Rattle.timing.proofs.RoundTrip.{encoded-test, codes-exactly, no-codes}
+use Rattle.frame.specs.Layout.{formNumbered, formatForm, addressCount, extraCount, headSize, total, checksumOf, isNowhere}
 use Rattle.frame.specs.Build.{placeFor, planned, sizeOf, buildNo, notBuilt, builtOf, bufferAfter, Builds}
 use Rattle.frame.specs.Read.{formatByte, placeRead, lengthRead, lengthOf, notLaid, laidOf, notRead, judged, readOf}
 use Rattle.frame.specs.declared.Plan.{Plan}
@@ -35,7 +36,7 @@ use Rattle.frame.specs.declared.Reading.{Reading}
 use Rattle.frame.proofs.Sizes.{frame-length}
 use Rattle.demands.specs.Refusals.{Not}
 use Rattle.demands.specs.Frames.{BadForm, GoesInFormat, TakesExtra, BadLength, BuildNumbered, Below, Allowed}
-use Rattle.demands.specs.Frames.{lowSix, addressesIn, extraByte, BadMode, NotPlaced, HeaderSays, BadSlice, BadSum, ReadNumbered}
+use Rattle.demands.specs.Frames.{lowSix, addressesIn, extraByte, sizeSaid, BadMode, NotPlaced, BadSlice, BadSum, ReadNumbered}
 use Rattle.demands.proofs.Numbering.{Decides, either-of, both, off, meets, misses}
 
 -- ---- tests that hold exactly when conditions do
@@ -362,6 +363,19 @@ count-read : (kb1 f : ℕ) → isNowhere (placeRead kb1 f) ≡ false → extraCo
 unfolding placeRead isNowhere extraCount
 count-read kb1 f h = count-by isNowhere extraCount _ _ _ refl refl refl (eqb (f % 64) 0) (extraLength kb1) (lengthInFormat kb1) h
 
+-- how many addresses, by the mode
+addresses-by : (m : ℕ) (a b c : Bool) → eqb m 0 ≡ a → eqb m 1 ≡ b
+    → addressCount (if a then Plain else if b then Foreign else if c then Physical else Functional) ≡ (if leb 2 m then 2 else 0)
+unfolding addressCount
+addresses-by m true b c ea eb = let e = eqb-true m 0 ea in rw (lt-leb 2 m (omega arith))
+addresses-by m false true c ea eb = let e = eqb-true m 1 eb in rw (lt-leb 2 m (omega arith))
+addresses-by m false false true ea eb = rw (le-leb 2 m (omega (arith, eqb-false m 0 ea, eqb-false m 1 eb)))
+addresses-by m false false false ea eb = rw (le-leb 2 m (omega (arith, eqb-false m 0 ea, eqb-false m 1 eb)))
+
+addresses-are : (s : List ℕ) → addressCount (formatForm (formatByte s)) ≡ addressesIn s
+unfolding formatForm
+addresses-are s = let m = formatByte s / 64 in addresses-by m (eqb m 0) (eqb m 1) (eqb m 2) refl refl
+
 -- the length, and how many bytes there are with it
 none-by : (m b : ℕ) (z : Bool) → eqb m 0 ≡ z → Decides (eqb (if z then b else m) 0) ((m ≡ 0) × (b ≡ 0))
 none-by m b true ez = same (eqb b 0) (decides-eq b 0) (λ e. (eqb-true m 0 ez, e), λ h. h .1)
@@ -369,26 +383,23 @@ none-by m b false ez = same (eqb m 0) (decides-eq m 0) (λ e. absurd (eqb-false 
 
 decides-none : (s : List ℕ) → Decides (eqb (lengthOf s) 0) ((lowSix s ≡ 0) × (extraByte s ≡ 0))
 unfolding lengthRead
-decides-none s = none-by (lowSix s) (extraByte s) (eqb (lowSix s) 0) refl
+decides-none s = rw (addresses-are s) (none-by (lowSix s) (extraByte s) (eqb (lowSix s) 0) refl)
 
-size-by : (n a m b k : ℕ) (z : Bool) → eqb m 0 ≡ z → k ≡ (if z then 1 else 0)
-    → Decides (eqb n (1 + a + k + (if z then b else m) + 1)) ((Not (m ≡ 0) × (n ≡ 1 + a + m + 1)) ⊎ ((m ≡ 0) × (n ≡ 1 + a + 1 + b + 1)))
-size-by n a m b k true ez ek =
-    same (eqb n (1 + a + k + b + 1)) (decides-eq n (1 + a + k + b + 1))
-    (λ e. inr (eqb-true m 0 ez, omega arith), ⊎-elim (λ h. absurd (h .0 (eqb-true m 0 ez))) (λ h. omega (arith, h .1)))
-size-by n a m b k false ez ek =
-    same (eqb n (1 + a + k + m + 1)) (decides-eq n (1 + a + k + m + 1))
-    (λ e. inl (eqb-false m 0 ez, omega arith), ⊎-elim (λ h. omega (arith, h .1)) (λ h. absurd (eqb-false m 0 ez (h .0))))
+size-by : (n a m b k : ℕ) (z : Bool) → k ≡ (if z then 1 else 0)
+    → Decides (eqb n (1 + a + k + (if z then b else m) + 1)) (n ≡ (if z then 1 + a + 1 + b + 1 else 1 + a + m + 1))
+size-by n a m b k true ek = same (eqb n (1 + a + k + b + 1)) (decides-eq n (1 + a + k + b + 1)) (λ e. omega arith, λ e. omega arith)
+size-by n a m b k false ek = same (eqb n (1 + a + k + m + 1)) (decides-eq n (1 + a + k + m + 1)) (λ e. omega arith, λ e. omega arith)
 
 abbrev startOf : ℕ → List ℕ → ℕ
 startOf kb1 s = headSize (formatForm (formatByte s)) (placeRead kb1 (formatByte s))
 
 decides-size : (kb1 : ℕ) (s : List ℕ) → isNowhere (placeRead kb1 (formatByte s)) ≡ false
-    → Decides (eqb (length s) (startOf kb1 s + lengthOf s + 1)) (HeaderSays s (length s))
+    → Decides (eqb (length s) (startOf kb1 s + lengthOf s + 1)) (length s ≡ sizeSaid s)
 unfolding lengthRead headSize
 decides-size kb1 s h =
-    size-by (length s) (addressesIn s) (lowSix s) (extraByte s) (extraCount (placeRead kb1 (formatByte s)))
-    (eqb (lowSix s) 0) refl (count-read kb1 (formatByte s) h)
+    rw (addresses-are s)
+    (size-by (length s) (addressesIn s) (lowSix s) (extraByte s) (extraCount (placeRead kb1 (formatByte s)))
+    (eqb (lowSix s) 0) (count-read kb1 (formatByte s) h))
 
 abbrev sliceTest : ℕ → List ℕ → Bool
 sliceTest kb1 s =

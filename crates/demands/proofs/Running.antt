@@ -94,9 +94,13 @@ starts-mark Tick m a s = absurd s
 starts-mark Drop m a s = absurd s
 starts-mark Other m a s = absurd s
 
+-- a run has a good start
+pub runs-starts : (m : Micros) (a : Event) (bs : Log) → Runs m a bs → Starts (a .kind) m a
+runs-starts m a none r = r
+runs-starts m a (bs ▷ b) r = runs-starts m a bs (r .0)
+
 pub runs-mark : (m : Micros) (a : Event) (bs : Log) → Runs m a bs → marks (a .kind) ≡ true
-runs-mark m a none r = starts-mark (a .kind) m a r
-runs-mark m a (bs ▷ b) r = runs-mark m a bs (r .0)
+runs-mark m a bs r = starts-mark (a .kind) m a (runs-starts m a bs r)
 
 -- the mark of a log is the end of the last byte, or of the start
 pub since-mark : {a : Event} {before log bs : Log} → marks (a .kind) ≡ true → Since a before log bs → markOf log ≡ lastEnd a bs

@@ -11,16 +11,17 @@ use Rattle.phases.specs.Phases.{isConnected, down}
 use Rattle.reports.specs.declared.Report.{Report}
 use Rattle.reports.specs.declared.Run.{Run}
 use Rattle.link.specs.Handling.{freshLink}
-use Rattle.link.specs.Stepping.{stepOf}
 use Rattle.demands.specs.Logs.{Log, none, _▷_, InBytes}
 use Rattle.demands.specs.Histories.{after, reportsTo, Says}
-use Rattle.demands.specs.Sessions.{Talk, Session, opens, lasts, IsIn, SomeSession}
+use Rattle.demands.specs.Sessions.{Talk, Session, opens, lasts, SomeSession}
 use Rattle.demands.proofs.Becomes.{becomes-connected-exactly}
 use Rattle.demands.proofs.Closing.{Ends, still-up, over}
 use Rattle.demands.proofs.Course.{event-ends, session-at}
+use Rattle.demands.specs.Ours.{ours}
+use Rattle.demands.specs.Beside.{IsIn}
 
 -- THE LINK OF A SESSION
-pub session-link : (es : Log) (t : Talk) → InBytes es → Session stepOf es t → IsIn t (after stepOf es .link)
+pub session-link : (es : Log) (t : Talk) → InBytes es → Session ours es t → IsIn t (after ours es .link)
 session-link es t b s =
     let f = session-at b s .fits in
     record { connected = f .connected; good = f .good; kb1 = f .kb1; kb2 = f .kb2; windows = f .windows; reply = f .reply }
@@ -31,26 +32,26 @@ over-off : (es : Log) (e : Event) (all rs : List Report) (t : Talk) (r : Run) �
 over-off es e all rs t r (still-up n f a) c s = false≢true (sym n ∙ s)
 over-off es e all rs t r (over n f d) c s = false≢true (sym d ∙ c)
 
-last-event : (es : Log) (e : Event) → InBytes (es ▷ e) → (before : Bool) → isConnected (after stepOf es .link .phase .state) ≡ before
-    → (before ≡ true → SomeSession stepOf es) → isConnected (after stepOf (es ▷ e) .link .phase .state) ≡ true → SomeSession stepOf (es ▷ e)
+last-event : (es : Log) (e : Event) → InBytes (es ▷ e) → (before : Bool) → isConnected (after ours es .link .phase .state) ≡ before
+    → (before ≡ true → SomeSession ours es) → isConnected (after ours (es ▷ e) .link .phase .state) ≡ true → SomeSession ours (es ▷ e)
 unfolding InBytes
 last-event es e b true c f n =
     let x = f refl in
     record {
       talk = _;
-      session = lasts (x .session) (over-off es e _ (reportsTo stepOf es e) (x .talk) _
+      session = lasts (x .session) (over-off es e _ (reportsTo ours es e) (x .talk) _
           (event-ends es e (x .talk) b (session-at (b .0) (x .session))) n);
     }
 last-event es e b false c f n =
     let x = becomes-connected-exactly es e .0 (c, n) in
     record { talk = _; session = opens (x .0) (x .1) }
 
-connected-session : (es : Log) → InBytes es → isConnected (after stepOf es .link .phase .state) ≡ true → SomeSession stepOf es
+connected-session : (es : Log) → InBytes es → isConnected (after ours es .link .phase .state) ≡ true → SomeSession ours es
 unfolding InBytes after freshLink down isConnected
 connected-session none b n = absurd (false≢true n)
 connected-session (es ▷ e) b n =
-    last-event es e b (isConnected (after stepOf es .link .phase .state)) refl (λ c. connected-session es (b .0) c) n
+    last-event es e b (isConnected (after ours es .link .phase .state)) refl (λ c. connected-session es (b .0) c) n
 
 -- CONNECTED EXACTLY IN A SESSION
-pub session-exactly : (es : Log) → InBytes es → (isConnected (after stepOf es .link .phase .state) ≡ true) ↔ SomeSession stepOf es
+pub session-exactly : (es : Log) → InBytes es → (isConnected (after ours es .link .phase .state) ≡ true) ↔ SomeSession ours es
 session-exactly es b = (λ c. connected-session es b c, λ x. session-link es (x .talk) b (x .session) .connected)

@@ -12,25 +12,24 @@ use Rattle.base.specs.Numbers.{taken}
 use Rattle.base.specs.Reports.{connectedReport}
 use Rattle.base.proofs.Tests.{by-test}
 use Rattle.keys.specs.declared.Form.the-variants.{Plain}
-use Rattle.frame.proofs.RoundTrip.{ReadsBack}
+use Rattle.frame.specs.ReadsBack.{ReadsBack}
 use Rattle.events.specs.Events.{isByte, isOther, isNobody, isUnknown, isTooLate, isOutOfOrder, refusal}
 use Rattle.events.specs.declared.Event.{Event}
 use Rattle.reports.specs.Reporting.{appended, listed}
 use Rattle.reports.specs.Counting.{zeroCounts}
 use Rattle.reports.specs.declared.Reports.{Reports}
 use Rattle.reports.specs.declared.Counts.{Counts}
-use Rattle.link.specs.Handling.{freshLink}
 use Rattle.link.specs.Stepping.{numberOf, refusedBy, answerOf, stepOf}
 use Rattle.demands.specs.Logs.{none, _▷_, countOf, clockOf, numberAfter, takenOf}
 use Rattle.link.specs.declared.Link.{Link}
 use Rattle.demands.specs.Refusals.{Above}
-use Rattle.demands.specs.Histories.{after, isAmong}
+use Rattle.demands.specs.Histories.{after, reportsTo, isAmong}
 use Rattle.demands.proofs.Example.{fastEvents, fastLast, fast-connects, fast-number}
-use Rattle.demands.specs.Wrong.{refusing, outside, unchanged, idling, inventing, behind, twice}
+use Rattle.demands.specs.Wrong.{refusing, outsideStep, outside, unchanged, idling, inventing, behind, twice, disordered, repeating, moving, shifting}
 use Rattle.demands.specs.DemandOne.{DemandOne}
 use Rattle.demands.specs.DemandTwo.{DemandTwo}
 use Rattle.demands.specs.DemandThree.{DemandThree}
-use Rattle.demands.proofs.Computed.{tick, twoBytes, retiming, is-fair, computed}
+use Rattle.demands.proofs.Computed.{tick, twoBytes, retiming, cutOff, tooSoon, asking, tooLate, addressed, unheard, lowWrong, is-fair, in-order, named-by, computed}
 
 -- ---- DEMAND 3 SHUTS OUT ..
 -- .. a step that leaves the link unchanged: two bytes are both reported with index 0
@@ -62,9 +61,9 @@ unfolding zeroCounts
 no-count-above u = under u (λ v. under v (λ w. under w (λ x. under x (λ y. under y (λ z. under z (λ h. omega arith))))))
 
 pub refusing-shut : DemandOne refusing → ⊥
-unfolding freshLink zeroCounts refusedBy isOther isByte
+unfolding after takenOf clockOf countOf zeroCounts refusedBy isOther isByte
 refusing-shut d =
-    let n = d .numbered freshLink zeroCounts tick in
+    let n = d .numbered none zeroCounts tick in
     false≢true (ap (λ (k : ℕ). eqb k 0) (n .taken .1 (
       (λ u. ⊎-elim (λ k. false≢true (ap isOther k)) (λ k. false≢true (ap isByte (k .0))) u),
       (λ u. ⊎-elim (λ k. omega arith) (λ k. omega arith) u),
@@ -73,7 +72,7 @@ refusing-shut d =
     )))
 
 -- ---- DEMAND 2 SHUTS OUT a link that reports each byte as outside: it never says that it is connected
-no-three : (b : Bool) (l : Link) (c : Counts) (e : Event) → eqb (numberOf l c e) taken ≡ b → isAmong connectedReport (listed (outside l c e .answer .reports)) ≡ false
+no-three : (b : Bool) (l : Link) (c : Counts) (e : Event) → eqb (numberOf l c e) taken ≡ b → isAmong connectedReport (listed (outsideStep l c e .answer .reports)) ≡ false
 unfolding isAmong listed appended stepOf answerOf refusedBy
 no-three true l c e q = rw q (by-test (λ (rs : Reports). isAmong connectedReport (listed rs) ≡ false) (isByte (e .kind)) (λ t. refl) (λ t. refl))
 no-three false l c e q = rw q
@@ -83,6 +82,23 @@ unfolding takenOf numberAfter clockOf countOf refusal isUnknown isTooLate isOutO
 outside-shut d =
     let h = after outside fastEvents in
     false≢true (sym (no-three (eqb (numberOf (h .link) (h .counts) fastLast) taken) (h .link) (h .counts) fastLast refl) ∙ d .connects-exactly fastEvents fastLast .1 (fast-number, fast-connects))
+
+-- ---- DEMAND 2 SHUTS OUT, by the order of an event's reports and by what a report 4 names, ..
+-- .. one that gives an event's reports in another order: 8, 7, 2 when a wake-up comes too soon and cuts a message off
+pub disordered-shut : DemandTwo disordered → ⊥
+disordered-shut d = false≢true (sym (computed .of-disordered) ∙ in-order 0 (reportsTo disordered cutOff tooSoon) (d .in-order cutOff tooSoon))
+
+-- .. one that repeats reports without bytes: 6, 6 when a request is not answered
+pub repeating-shut : DemandTwo repeating → ⊥
+repeating-shut d = false≢true (sym (computed .of-repeating) ∙ in-order 0 (reportsTo repeating asking tooLate) (d .in-order asking tooLate))
+
+-- .. one that moves the byte of a report 4 to a report 5 behind it: 4, 5, 5 when KB1 comes too late
+pub moving-shut : DemandTwo moving → ⊥
+moving-shut d = false≢true (sym (computed .of-moving) ∙ in-order 0 (reportsTo moving addressed unheard) (d .in-order addressed unheard))
+
+-- .. one that moves it to another report 4 of the same event: 4 with reason 1 and 4 with reason 3, when a wake-up that is low too long comes instead
+pub shifting-shut : DemandTwo shifting → ⊥
+shifting-shut d = false≢true (sym (computed .of-shifting) ∙ named-by shifting addressed lowWrong (d .failed-names addressed lowWrong))
 
 -- ---- AND a builder with one constant frame: it can't read back as two different bytes
 pub constant-shut : (frame : List ℕ) → ((byte : ℕ) → ReadsBack 0xEF 0x8F Plain 0 0 (byte ∷ []) frame) → ⊥

@@ -27,7 +27,8 @@ use Rattle.events.specs.declared.Event.{Event}
 use Rattle.talk.specs.Talk.{headReason, firstReason, begun, laterReason, isSum, grown}
 use Rattle.talk.specs.declared.Part.{Part}
 use Rattle.talk.specs.declared.Message.{Message}
-use Rattle.talk.proofs.Frames.{endsIn, isMessage, message-reads}
+use Rattle.talk.specs.Messages.{endsIn, isMessage}
+use Rattle.talk.proofs.Frames.{message-reads}
 use Rattle.phases.specs.Phases.{isQuiet, isHeld, isOpen, talking, holding, framed}
 use Rattle.phases.specs.declared.State.{State}
 use Rattle.phases.specs.declared.State.the-variants.{Down, Starting, Quiet, Held, Damage}
@@ -39,10 +40,11 @@ use Rattle.reports.specs.declared.Report.{Report}
 use Rattle.reports.specs.declared.Run.{Run}
 use Rattle.link.specs.Handling.{passed, hearing, byteHeard, acted, handled, linkAfter}
 use Rattle.link.specs.Handling.{begun as begins-run}
-use Rattle.link.specs.Stepping.{refusedBy, takenBy, stepOf}
+use Rattle.link.specs.Stepping.{refusedBy, takenBy}
 use Rattle.link.specs.declared.Link.{Link}
 use Rattle.link.specs.declared.Answer.{Answer}
-use Rattle.link.proofs.Three.{tells, passedTells, byteTells, actedTells, handledTells, three-enough}
+use Rattle.link.specs.Telling.{tells, passedTells, byteTells, actedTells, handledTells}
+use Rattle.link.proofs.Three.{three-enough}
 use Rattle.demands.specs.Logs.{Log, none, _▷_, heardIn, numberAfter, takenOf, InBytes, Begins, whole, more}
 use Rattle.demands.specs.Histories.{after, reportsTo, isAmong, Among, first}
 use Rattle.demands.specs.Accounts.{namedBy}
@@ -61,6 +63,7 @@ use Rattle.demands.proofs.Going.{Holds, Opened, open-or-quiet}
 use Rattle.demands.proofs.Hearing.{within, grown-side}
 use Rattle.demands.proofs.Course.{AtLink, session-at}
 use Rattle.demands.proofs.Reporting.{frames-end}
+use Rattle.demands.specs.Ours.{ours}
 
 -- ---- a message's bytes, and its session's key bytes
 speaks-good : {t : Talk} {b : Event} {log : Log} {bytes : List ℕ} → InBytes log → Speaking t b log bytes → goodPair (t .kb1) (t .kb2) ≡ true
@@ -79,11 +82,11 @@ speaks-bytes i (grows {bytes = bytes} {e = e} s r n k d m) = bytes-both bytes (e
 
 -- ---- an event that makes no report and leaves the link in this phase
 record Unmoved (es : Log) (e : Event) (q : Phase) : Type 0 where
-  silent : reportsTo stepOf es e ≡ []
-  phase : after stepOf (es ▷ e) .link .phase ≡ q
-  named : after stepOf (es ▷ e) .link .named ≡ after stepOf es .link .named
+  silent : reportsTo ours es e ≡ []
+  phase : after ours (es ▷ e) .link .phase ≡ q
+  named : after ours (es ▷ e) .link .named ≡ after ours es .link .named
 
-refused-unmoved : (es : Log) (e : Event) → (numberAfter (takenOf es) e ≡ taken → ⊥) → Unmoved es e (after stepOf es .link .phase)
+refused-unmoved : (es : Log) (e : Event) → (numberAfter (takenOf es) e ≡ taken → ⊥) → Unmoved es e (after ours es .link .phase)
 unfolding after refusedBy listed
 refused-unmoved es e n =
     let a = answer-refused es e n in
@@ -93,9 +96,9 @@ refused-unmoved es e n =
       named = ap (λ (x : Answer). x .link .named) a;
     }
 
-taken-unmoved : (es : Log) (e : Event) (r : Run) → numberAfter (takenOf es) e ≡ taken → handled (after stepOf es .link) e ≡ r
+taken-unmoved : (es : Log) (e : Event) (r : Run) → numberAfter (takenOf es) e ≡ taken → handled (after ours es .link) e ≡ r
     → r .reports ≡ noReports
-    → r .named ≡ after stepOf es .link .named → Unmoved es e (r .phase)
+    → r .named ≡ after ours es .link .named → Unmoved es e (r .phase)
 unfolding after takenBy linkAfter listed
 taken-unmoved es e r n h s m =
     let a = answer-taken es e n in
@@ -105,21 +108,21 @@ taken-unmoved es e r n h s m =
       named = ap (λ (x : Answer). x .link .named) a ∙ ap (λ (x : Run). x .named) h ∙ m;
     }
 
-session-on : (es : Log) (e : Event) (t : Talk) (q : Phase) → Unmoved es e q → Session stepOf es t → Session stepOf (es ▷ e) t
+session-on : (es : Log) (e : Event) (t : Talk) (q : Phase) → Unmoved es e q → Session ours es t → Session ours (es ▷ e) t
 unfolding talkAfter isAmong
 session-on es e t q u s =
-    subst (λ (rs : List Report). Session stepOf (es ▷ e) (talkAfter t (e .side) (heardIn (es ▷ e)) rs)) (u .silent)
+    subst (λ (rs : List Report). Session ours (es ▷ e) (talkAfter t (e .side) (heardIn (es ▷ e)) rs)) (u .silent)
     (lasts s (λ z. false≢true (subst (λ (rs : List Report). isAmong downReport rs ≡ true) (u .silent) z)))
 
 -- ---- the link holds a message
 record Standing (log : Log) (t : Talk) (b : Event) (bytes : List ℕ) : Type 0 where
-  session : Session stepOf log t
-  held : isHeld (after stepOf log .link .phase .state) ≡ true
-  heard : drop (after stepOf log .link .named) (heardIn log) ≡ bytes
-  whose : after stepOf log .link .phase .message .side ≡ b .side
+  session : Session ours log t
+  held : isHeld (after ours log .link .phase .state) ≡ true
+  heard : drop (after ours log .link .named) (heardIn log) ≡ bytes
+  whose : after ours log .link .phase .message .side ≡ b .side
 
 stand-on : (log : Log) (e : Event) (t : Talk) (b : Event) (bytes : List ℕ) → heardIn (log ▷ e) ≡ heardIn log
-    → Unmoved log e (after stepOf log .link .phase)
+    → Unmoved log e (after ours log .link .phase)
     → Standing log t b bytes → Standing (log ▷ e) t b bytes
 stand-on log e t b bytes q u s = record {
   session = session-on log e t _ u (s .session);
@@ -158,7 +161,7 @@ ends-last side m v q = by-tests (eqb (laterReason m side v) noReason) (isSum (m 
 -- time passes in time
 module _ (log : Log) (e : Event) (t : Talk) (b : Event) (bytes : List ℕ) (s : Standing log t b bytes) (near : InTime (takenOf log) e) where
   abbrev link : Link
-  link = after stepOf log .link
+  link = after ours log .link
 
   stays : passed (begins-run link e) (link .mark) (e .start) ≡ begins-run link e
   unfolding begins-run
@@ -291,7 +294,7 @@ module _ (log : Log) (e : Event) (t : Talk) (b : Event) (bytes : List ℕ) (s : 
         subst₂ (λ (x : Run) (y : Kind). Among report (passedTells r (link .mark) (e .start) ++ actedTells y x e (link .mark))) (sym stays) (sym k)
         (among-right (passedTells r (link .mark) (e .start)) (among-byte m))
 
-    all-reports : reportsTo stepOf log e ≡ handledTells link e
+    all-reports : reportsTo ours log e ≡ handledTells link e
     unfolding takenBy
     all-reports = ap (λ (x : Answer). listed (x .reports)) (answer-taken log e n) ∙ three-enough link e
 
@@ -309,7 +312,7 @@ module _ (log : Log) (e : Event) (t : Talk) (b : Event) (bytes : List ℕ) (s : 
 
     frame-made : Bytes (bytes ++ (e .value ∷ [])) → goodPair (t .kb1) (t .kb2) ≡ true
         → readOf (t .kb1) (t .kb2) (bytes ++ (e .value ∷ [])) .no ≡ taken
-        → ReportsFrame (heardIn (log ▷ e)) (reportsTo stepOf log e) (bytes ++ (e .value ∷ []))
+        → ReportsFrame (heardIn (log ▷ e)) (reportsTo ours log e) (bytes ++ (e .value ∷ []))
     unfolding reportOf
     frame-made f g r =
         let whole-is = message-reads (t .kb1) (t .kb2) (b .side) (bytes ++ (e .value ∷ [])) g f ∙ eq-eqb _ taken r in
@@ -336,7 +339,7 @@ last-one {log = log} {c = c} (more m) n k q = absurd (let x = begins-longer m in
 
 module _ (t : Talk) (before : Log) (b : Event) (i : InBytes (before ▷ b)) (o : Starts t before b) where
   abbrev behind : Link
-  behind = after stepOf (before ▷ b) .link
+  behind = after ours (before ▷ b) .link
 
   at-first : AtLink (before ▷ b) t
   at-first = session-at i (o .first .session)
@@ -388,7 +391,7 @@ module _ (t : Talk) (before : Log) (b : Event) (i : InBytes (before ▷ b)) (o :
 
 -- ---- and so on
 on-stands : (t : Talk) (b : Event) (log : Log) (e : Event) (bytes : List ℕ) → heardIn (log ▷ e) ≡ heardIn log
-    → (Standing log t b bytes → Unmoved log e (after stepOf log .link .phase)) → Stands t b log bytes → Stands t b (log ▷ e) bytes
+    → (Standing log t b bytes → Unmoved log e (after ours log .link .phase)) → Stands t b log bytes → Stands t b (log ▷ e) bytes
 on-stands t b log e bytes q u (open-still s) = open-still (stand-on log e t b bytes q (u s) s)
 on-stands t b log e bytes q u (hopeless f) = hopeless f
 on-stands t b log e bytes q u (done r) = done r
@@ -401,10 +404,10 @@ grow-stands : (t : Talk) (b : Event) (log : Log) (e : Event) (bytes : List ℕ) 
 grow-stands t b log e bytes i f g r n k d m (open-still s) = by-tests (eqb later noReason) (isSum part) refl refl
   where
     later : ℕ
-    later = laterReason (after stepOf log .link .phase .message) (b .side) (e .value)
+    later = laterReason (after ours log .link .phase .message) (b .side) (e .value)
 
     part : Part
-    part = after stepOf log .link .phase .message .part
+    part = after ours log .link .phase .message .part
 
     by-tests : (x y : Bool) → eqb later noReason ≡ x → isSum part ≡ y → Stands t b (log ▷ e) (bytes ++ (e .value ∷ []))
     by-tests true true x y = done (sum-reads log e t b bytes s m i n k d f g (eqb-true later noReason x) y)
@@ -436,7 +439,7 @@ tick-byte : (k : Kind) → k ≡ Tick → k ≡ Byte → ⊥
 tick-byte k t b = let z : _≡_ {A = ℕ} 0 1 = cc in omega arith
 
 last-reports : (es : Log) (e : Event) (t : Talk) (b : Event) (bytes : List ℕ) → InBytes (es ▷ e) → Speaking t b (es ▷ e) bytes → e .kind ≡ Byte
-    → numberAfter (takenOf es) e ≡ taken → readOf (t .kb1) (t .kb2) bytes .no ≡ taken → ReportsFrame (heardIn (es ▷ e)) (reportsTo stepOf es e) bytes
+    → numberAfter (takenOf es) e ≡ taken → readOf (t .kb1) (t .kb2) bytes .no ≡ taken → ReportsFrame (heardIn (es ▷ e)) (reportsTo ours es e) bytes
 unfolding InBytes
 last-reports es e t b bytes i (begins o) k n r = absurd (alone-never t e (session-at i (o .first .session) .fits .good) (bytes-one (e .value) (i .1)) r)
 last-reports es e t b bytes i (refused s m) k n r = absurd (m n)
@@ -449,7 +452,7 @@ last-reports es e t b bytes i (grows {bytes = front} s q m j d near) k n r = by-
     all-bytes : Bytes (front ++ (e .value ∷ []))
     all-bytes = bytes-both front (e .value ∷ []) (speaks-bytes (i .0) s) (bytes-one (e .value) (i .1))
 
-    by-stand : Stands t b es front → ReportsFrame (heardIn (es ▷ e)) (reportsTo stepOf es e) (front ++ (e .value ∷ []))
+    by-stand : Stands t b es front → ReportsFrame (heardIn (es ▷ e)) (reportsTo ours es e) (front ++ (e .value ∷ []))
     by-stand (open-still x) = frame-made es e t b front x near (i .0) n k d all-bytes good r
     by-stand (hopeless f) =
         absurd (false≢true (sym (f (e .value ∷ [])) ∙ message-reads (t .kb1) (t .kb2) (b .side) (front ++ (e .value ∷ [])) good all-bytes
@@ -459,7 +462,7 @@ last-reports es e t b bytes i (grows {bytes = front} s q m j d near) k n r = by-
 -- A BYTE IS REPORTED AS A FRAME exactly if it ends a message in bytes that `read` takes, and the report names these; by the session behind the message's
 -- first byte (`frames-exactly` in `Opening`)
 pub frames-behind : (es : Log) (e : Event) (bytes : List ℕ) → InBytes (es ▷ e)
-    → ReportsFrame (heardIn (es ▷ e)) (reportsTo stepOf es e) bytes ↔ Finishes es e bytes
+    → ReportsFrame (heardIn (es ▷ e)) (reportsTo ours es e) bytes ↔ Finishes es e bytes
 frames-behind es e bytes i = (
   λ x. subst (Finishes es e) (x .names) (frames-end es e (x .report) i (x .made) (x .number)),
   λ x. last-reports es e (x .talk) (x .first) bytes i (x .message) (x .kind) (x .number) (x .read),

@@ -28,7 +28,7 @@ use Rattle.reports.specs.declared.Report.{Report}
 use Rattle.reports.specs.declared.Run.{Run}
 use Rattle.link.specs.Handling.{passed, shut, hearing, byteHeard, actedBy, acted, begun, handled}
 use Rattle.link.specs.declared.Link.{Link}
-use Rattle.link.proofs.Three.{tells, passedTells, shutTells, byteTells, actedTells, handledTells}
+use Rattle.link.specs.Telling.{tells, passedTells, shutTells, byteTells, actedTells, handledTells}
 use Rattle.demands.proofs.Holding.{Holds, holds-order, holds-none, goesBy, ofSome, Goes, Idle, closing-idle, leaving-idle}
 use Rattle.demands.proofs.Holding.{silence-goes, p2-goes, p3-goes, window-goes, closing-goes, leaving-goes}
 use Rattle.demands.proofs.Holding.{slow-goes, fast-goes, byte-goes, stop-goes}

@@ -30,16 +30,18 @@ use Rattle.reports.specs.Reporting.{reportOf, moved, listed}
 use Rattle.reports.specs.declared.Report.{Report}
 use Rattle.reports.specs.declared.Run.{Run}
 use Rattle.link.specs.Handling.{passed, shut, hearing, begun}
-use Rattle.link.specs.Stepping.{refusedBy, takenBy, stepOf}
+use Rattle.link.specs.Stepping.{refusedBy, takenBy}
 use Rattle.link.specs.declared.Link.{Link}
 use Rattle.link.specs.declared.Answer.{Answer}
-use Rattle.link.proofs.Three.{tells, passedTells, shutTells, byteTells, actedTells, handledTells, three-enough}
+use Rattle.link.specs.Telling.{tells, passedTells, shutTells, byteTells, actedTells, handledTells}
+use Rattle.link.proofs.Three.{three-enough}
 use Rattle.link.proofs.Long.{open-connected, quiet-connected}
 use Rattle.demands.specs.Logs.{Log, numberAfter, takenOf}
-use Rattle.demands.specs.Histories.{after, answerTo, reportsTo}
+use Rattle.demands.specs.Histories.{after, reportsTo}
 use Rattle.demands.proofs.Basics.{answer-taken, answer-refused}
 use Rattle.demands.proofs.Tiling.{moved-phase}
 use Rattle.demands.proofs.Saying.{Each, each-none, each-one, each-both}
+use Rattle.demands.specs.Ours.{ours, ourAnswer}
 
 -- neither 1 nor 2
 abbrev Apart : ℕ → Type 0
@@ -232,13 +234,13 @@ unfolding takenBy
 taken-none l e c = subst (Each Other12) (sym (three-enough l e)) (handling l e c)
 
 -- A LINK THAT IS NOT CONNECTED REPORTS NEITHER
-pub none-unconnected : (es : Log) (e : Event) → isConnected (after stepOf es .link .phase .state) ≡ false → Each Other12 (reportsTo stepOf es e)
+pub none-unconnected : (es : Log) (e : Event) → isConnected (after ours es .link .phase .state) ≡ false → Each Other12 (reportsTo ours es e)
 none-unconnected es e c = by-number (eqb (numberAfter (takenOf es) e) taken) refl
   where
-    by-number : (b : Bool) → eqb (numberAfter (takenOf es) e) taken ≡ b → Each Other12 (listed (answerTo stepOf es e .reports))
+    by-number : (b : Bool) → eqb (numberAfter (takenOf es) e) taken ≡ b → Each Other12 (listed (ourAnswer es e .reports))
     by-number true n =
         subst (λ (a : Answer). Each Other12 (listed (a .reports))) (sym (answer-taken es e (eqb-true (numberAfter (takenOf es) e) taken n)))
-        (taken-none (after stepOf es .link) e c)
+        (taken-none (after ours es .link) e c)
     by-number false n =
         subst (λ (a : Answer). Each Other12 (listed (a .reports))) (sym (answer-refused es e (eqb-false (numberAfter (takenOf es) e) taken n)))
-        (refused-none (after stepOf es .link) (numberAfter (takenOf es) e))
+        (refused-none (after ours es .link) (numberAfter (takenOf es) e))

@@ -1,6 +1,5 @@
 -- Demand 3: what reports name, and counts worked out from a history. Assumes nothing.
 use Prim.Native.Nat.{ℕ, _+_, _-_, _≤_}
-use mathlib.Core.Bool.{false}
 use mathlib.Core.List.{List, [], _∷_, _++_}
 use mathlib.Core.Path.{_≡_}
 use lib.Dec.{eqb}
@@ -8,12 +7,10 @@ use lib.ListN.{length, take, drop}
 use Rattle.base.specs.Choice.{if_then_else_}
 use Rattle.base.specs.Reports.{frameReport, damageReport, connectedReport, failedReport, outsideReport}
 use Rattle.events.specs.declared.Event.{Event}
-use Rattle.phases.specs.Phases.{isStarting, isOpen}
 use Rattle.reports.specs.declared.Report.{Report}
 use Rattle.reports.specs.declared.Counts.{Counts}
-use Rattle.listing.specs.Listing.{heldOf}
 use Rattle.demands.specs.Logs.{Log, heardIn}
-use Rattle.demands.specs.Histories.{Step, after, answerTo, reportsOf}
+use Rattle.demands.specs.Histories.{Machine, after, reportsTo, reportsOf, heldBy}
 
 -- "A report names its bytes by the first one's index and their number": those bytes among the ones heard
 unfoldable pub namedBy : List ℕ → Report → List ℕ
@@ -59,22 +56,20 @@ namedIn [] = 0
 namedIn (r ∷ rs) = r .bytes + namedIn rs
 
 -- "Bytes held are those of the open message, damage or initialization that no report has named yet": how many were heard and not named
-unfoldable pub heldIn : Step → Log → ℕ
-heldIn step es = length (heardIn es) - namedIn (reportsOf step es)
+unfoldable pub heldIn : Machine → Log → ℕ
+heldIn m es = length (heardIn es) - namedIn (reportsOf m es)
 
--- DEMAND 3 of a step, after the events es
-pub record Accounted (step : Step) (es : Log) : Type 0 where
+-- DEMAND 3 of a link, behind the events es
+pub record Accounted (m : Machine) (es : Log) : Type 0 where
   -- "the bytes the reports name, in order, followed by those held, are the bytes heard, each once"
-  pub bytes : allNamed (heardIn es) (reportsOf step es) ++ lastOf (heldIn step es) (heardIn es) ≡ heardIn es
+  pub bytes : allNamed (heardIn es) (reportsOf m es) ++ lastOf (heldIn m es) (heardIn es) ≡ heardIn es
   -- none is named before it is heard
-  pub heard : namedIn (reportsOf step es) ≤ length (heardIn es)
+  pub heard : namedIn (reportsOf m es) ≤ length (heardIn es)
   -- the first index of each report is the number of bytes named before it
-  pub indexes : InTurn 0 (reportsOf step es)
+  pub indexes : InTurn 0 (reportsOf m es)
   -- "every count equals the one worked out from that history"
-  pub counts : after step es .counts ≡ countsOf (heardIn es) (reportsOf step es)
-  -- the bytes that the link holds, and an end line shows, are as many
-  pub held : heldOf (after step es .link) ≡ heldIn step es
-  -- none is held while neither a message, nor damage, nor an initialization is open
-  pub idle : isOpen (after step es .link .phase .state) ≡ false → isStarting (after step es .link .phase .state) ≡ false → heldIn step es ≡ 0
+  pub counts : after m es .counts ≡ countsOf (heardIn es) (reportsOf m es)
+  -- so many bytes the link says that it holds
+  pub held : heldBy m es ≡ heldIn m es
   -- "At most three per event."
-  pub three : (e : Event) → answerTo step es e .reports .n ≤ 3
+  pub three : (e : Event) → length (reportsTo m es e) ≤ 3

@@ -1,20 +1,15 @@
 -- When an event completes an initialization: a condition on the events taken before it, and on no link. Assumes nothing.
 use Prim.Native.Nat.{ℕ, _+_, _≤_}
 use mathlib.Core.Bool.{true}
-use mathlib.Core.List.{[], _∷_}
+use mathlib.Core.List.{List, [], _∷_}
 use mathlib.Core.Path.{_≡_}
 use mathlib.Core.Logic.{_⊎_}
 use lib.ListN.{length}
 use Rattle.base.specs.Reports.{connectedReport, noReason}
 use Rattle.keys.specs.Keys.{goodPair}
-use Rattle.timing.specs.Timing.{setOf}
 use Rattle.events.specs.declared.Kind.the-variants.{Byte, Tick}
 use Rattle.events.specs.declared.Event.{Event}
-use Rattle.talk.specs.declared.Reply.the-variants.{Never}
-use Rattle.talk.specs.declared.Request.the-variants.{Ordinary}
-use Rattle.phases.specs.declared.State.the-variants.{Quiet}
-use Rattle.reports.specs.Reporting.{listed}
-use Rattle.link.specs.declared.Answer.{Answer}
+use Rattle.reports.specs.declared.Report.{Report}
 use Rattle.demands.specs.Logs.{Log, none, _▷_, markOf, heardOf}
 use Rattle.demands.specs.Starts.{SlowStart, FastStart}
 
@@ -37,10 +32,10 @@ pub record Connects (log : Log) (e : Event) : Type 0 where
   pub last : e .kind ≡ Byte
   pub good : SlowStart start kb1 kb2 (bytes ▷ e) ⊎ FastStart start kb1 kb2 (bytes ▷ e)
 
--- WHAT IT IS ANSWERED WITH, and what the link then has
-pub record Connected (log : Log) (e : Event) (c : Connects log e) (a : Answer) : Type 0 where
+-- WHAT IT IS ANSWERED WITH
+pub record Connected (log : Log) (e : Event) (c : Connects log e) (rs : List Report) : Type 0 where
   -- its one report: from the first byte behind the start, as many as came since, at the event's end
-  pub reports : listed (a .reports)
+  pub reports : rs
       ≡ (record {
         first = length (heardOf (c .before));
         bytes = length (heardOf (c .bytes)) + 1;
@@ -48,12 +43,5 @@ pub record Connected (log : Log) (e : Event) (c : Connects log e) (a : Answer) :
         number = connectedReport;
         reason = noReason;
       } ∷ [])
-  -- connected, with nothing open, by these key bytes, which are a good pair
-  pub state : a .link .phase .state ≡ Quiet
-  pub kb1 : a .link .phase .start .kb1 ≡ c .kb1
-  pub kb2 : a .link .phase .start .kb2 ≡ c .kb2
+  -- its key bytes are a good pair
   pub good : goodPair (c .kb1) (c .kb2) ≡ true
-  -- "Timing starts at the set KB1 names", and nothing is expected yet
-  pub windows : a .link .phase .windows ≡ setOf (c .kb1)
-  pub reply : a .link .phase .reply ≡ Never
-  pub request : a .link .phase .request ≡ Ordinary

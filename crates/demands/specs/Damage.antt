@@ -1,22 +1,25 @@
--- Why bytes are reported as damage, told by the bytes that report 2 names (document 01, "Connected."): the rules on a message's bytes are those of
--- crates/talk, taken from the first byte on. That the link's reasons are these is proved in proofs/Breaking.antt.
+-- Why bytes are reported as damage, told by the values and sides of the bytes that report 2 names, from the first one on, and by KB1 (document 01,
+-- "Connected."). That the link's reasons are these is proved in proofs/Breaking.antt.
 -- Assumes nothing.
-use Prim.Native.Nat.{ℕ, _<_}
+use Prim.Native.Nat.{ℕ, _+_, _/_, _%_, _<_}
+use mathlib.Core.Bool.{Bool, not, _&&_}
 use mathlib.Core.List.{List, [], _∷_, _++_}
 use mathlib.Core.Path.{_≡_}
-use lib.Dec.{eqb}
-use lib.ListN.{take, drop}
+use lib.Dec.{eqb, leb}
+use lib.ListN.{length, take, drop}
 use Rattle.base.specs.Choice.{if_then_else_}
-use Rattle.base.specs.Reports.{noReason, brokenOff, closed}
+use Rattle.base.specs.Reports.{noReason, brokenOff, closed, modeOne, wrongForm, otherSide, wrongLength, wrongSum}
 use Rattle.units.specs.declared.Micros.{Micros}
-use Rattle.events.specs.Events.{isByte}
+use Rattle.keys.specs.Keys.{lengthInFormat, extraLength, noAddresses, withAddresses, isExtended}
+use Rattle.frame.specs.Layout.{total}
+use Rattle.events.specs.Events.{isByte, sameSide}
+use Rattle.events.specs.declared.Side.{Side}
 use Rattle.events.specs.declared.Event.{Event}
-use Rattle.talk.specs.Talk.{headReason, begun, laterReason, grown}
-use Rattle.talk.specs.declared.Message.{Message}
 use Rattle.reports.specs.declared.Report.{Report}
 use Rattle.demands.specs.Logs.{Log, none, _▷_, takenOf}
 use Rattle.demands.specs.Refusals.{Not}
-use Rattle.demands.specs.Histories.{Step}
+use Rattle.demands.specs.Frames.{lowSix, addressesIn, sizeSaid}
+use Rattle.demands.specs.Histories.{Machine}
 use Rattle.demands.specs.Sessions.{Turns, gapBefore, EarlyAt, StrayAt}
 
 -- the bytes heard, as events (`heardOf` gives their values)
@@ -28,18 +31,52 @@ bytesOf (log ▷ e) = bytesOf log ++ (if isByte (e .kind) then e ∷ [] else [])
 unfoldable pub bytesNamed : List Event → Report → List Event
 bytesNamed heard r = take (r .bytes) (drop (r .first) heard)
 
--- THE REASON THAT BYTES GIVE. "Later: other side (7), length byte 0 (8), wrong checksum (9).": that of the first byte that fails ("The failing byte joins;
--- bytes are skipped"), behind a message so far; none where no byte does.
-unfoldable pub reasonBehind : Message → List Event → ℕ
-reasonBehind m [] = noReason
-reasonBehind m (b ∷ bs) =
-    if eqb (laterReason m (b .side) (b .value)) noReason then reasonBehind (grown m (b .value)) bs else laterReason m (b .side) (b .value)
+-- ---- THE REASON THAT BYTES GIVE, of a message or of what would be one, by their values and sides and by KB1
+-- "Then mode 01 (5), form not announced or functional under extended timing (6), a length place KB1 doesn't announce (8).": the first byte, of this value
+unfoldable pub firstFault : ℕ → ℕ → ℕ
+firstFault kb1 f =
+    let mode = f / 64 in
+    let low = f % 64 in
+    if eqb mode 1 then modeOne else
+    if eqb mode 0 && not (noAddresses kb1) then wrongForm else
+    if leb 2 mode && not (withAddresses kb1) then wrongForm else
+    if leb 3 mode && isExtended kb1 then wrongForm else
+    if not (eqb low 0) && not (lengthInFormat kb1) then wrongLength else
+    if eqb low 0 && not (extraLength kb1) then wrongLength else noReason
 
--- A message's bytes from the first one on, under KB1: "Then mode 01 (5), form not announced or functional under extended timing (6), a length place KB1
--- doesn't announce (8)."
-unfoldable pub reasonIn : ℕ → List Event → ℕ
-reasonIn kb1 [] = noReason
-reasonIn kb1 (b ∷ bs) = if eqb (headReason kb1 (b .value)) noReason then reasonBehind (begun (b .side) (b .value)) bs else headReason kb1 (b .value)
+-- the byte behind these values is the extra length byte, which stands behind the addresses; it is the checksum, with which the frame is as long as its
+-- header says. (No byte comes behind a right checksum.)
+unfoldable pub isLengthByte : List ℕ → Bool
+isLengthByte s = eqb (lowSix s) 0 && eqb (length s) (1 + addressesIn s)
+
+unfoldable pub isChecksum : List ℕ → Bool
+isChecksum s = leb (sizeSaid s) (length s + 1)
+
+-- "Later: other side (7), length byte 0 (8), wrong checksum (9).": the byte b behind bytes of this side and these values
+unfoldable pub laterFault : Side → List ℕ → Event → ℕ
+laterFault side s b =
+    if not (sameSide (b .side) side) then otherSide else
+    if isLengthByte s && eqb (b .value) 0 then wrongLength else
+    if isChecksum s && not (eqb (b .value) (total s % 256)) then wrongSum else noReason
+
+-- the values of bytes
+unfoldable pub valuesOf : List Event → List ℕ
+valuesOf [] = []
+valuesOf (b ∷ bs) = b .value ∷ valuesOf bs
+
+-- a byte behind those before it, none of which fails
+unfoldable pub faultAt : ℕ → List Event → Event → ℕ
+faultAt kb1 [] b = firstFault kb1 (b .value)
+faultAt kb1 (f ∷ bs) b = laterFault (f .side) (valuesOf (f ∷ bs)) b
+
+-- "The failing byte joins; bytes are skipped": the reason is that of the first byte that fails, and none where no byte does
+unfoldable pub reasonBehind : ℕ → List Event → List Event → ℕ
+reasonBehind kb1 before [] = noReason
+reasonBehind kb1 before (b ∷ bs) =
+    if eqb (faultAt kb1 before b) noReason then reasonBehind kb1 (before ++ (b ∷ [])) bs else faultAt kb1 before b
+
+abbrev pub reasonIn : ℕ → List Event → ℕ
+reasonIn kb1 bs = reasonBehind kb1 [] bs
 
 -- a report's reason, where its bytes give the reason k, and from the mark to the event's start there is such a gap
 pub record GoesBy (k : ℕ) (gap : Micros) (r : Report) : Type 0 where
@@ -52,8 +89,8 @@ pub record GoesBy (k : ℕ) (gap : Micros) (r : Report) : Type 0 where
 
 -- A REPORT 2 of the event e behind es: its first byte, which was early or stray exactly if the reason is 3 or 4; and where it was neither, the reason goes
 -- by the bytes that the report names, under the session's KB1
-pub record Damaged (step : Step) (es : Log) (e : Event) (r : Report) : Type 0 where
-  pub turns : Turns step (es ▷ e) r
-  pub otherwise : Not (EarlyAt step (turns .first .before) (turns .first .byte) (turns .first .talk))
-      → Not (StrayAt step (turns .first .before) (turns .first .byte) (turns .first .talk))
+pub record Damaged (m : Machine) (es : Log) (e : Event) (r : Report) : Type 0 where
+  pub turns : Turns m (es ▷ e) r
+  pub otherwise : Not (EarlyAt m (turns .first .before) (turns .first .byte) (turns .first .talk))
+      → Not (StrayAt m (turns .first .before) (turns .first .byte) (turns .first .talk))
       → GoesBy (reasonIn (turns .first .talk .kb1) (bytesNamed (bytesOf (takenOf es)) r)) (gapBefore (takenOf es) e) r

@@ -1,18 +1,18 @@
--- DEMAND 1: an event gets the number whose condition holds and none smaller, and one that is refused changes nothing. This is said of any link, with
--- any counts and any event, also of those that no history gives; of a history, whose own events decide it; and of frames built and read and timing codes.
--- A link that refused everything would break it.
+-- DEMAND 1: "The link takes any event at all and always comes back. Bad times, unknown kinds, wrong key bytes, short buffers, unannounced forms each get
+-- their number. After a refusal the link, its counts and the lent buffers hold what they held before." An event gets the number whose condition holds and none
+-- smaller, behind any history and with any counts lent; one that is refused changes nothing. The same is said of frames built and read and of timing codes. A
+-- link that refused everything would break it.
 -- Assumes nothing.
 use Prim.Native.Nat.{ℕ, _≤_}
 use mathlib.Core.List.{List}
 use mathlib.Core.Logic.{_↔_}
 use mathlib.Core.Path.{_≡_}
 use lib.ListN.{length}
-use Rattle.base.specs.Numbers.{taken}
 use Rattle.units.specs.Units.{micros}
 use Rattle.timing.specs.Timing.{windowsBy, notDecoded, decodedOf, notEncoded, encodedOf}
 use Rattle.timing.specs.declared.Windows.{Windows}
 use Rattle.timing.specs.declared.Codes.{Codes}
-use Rattle.timing.proofs.RoundTrip.{HasCodes}
+use Rattle.timing.specs.Coded.{HasCodes}
 use Rattle.frame.specs.Build.{planned, sizeOf, Builds}
 use Rattle.frame.specs.Read.{notRead, readOf}
 use Rattle.frame.specs.declared.Plan.{Plan}
@@ -22,38 +22,37 @@ use Rattle.events.specs.declared.Side.the-variants.{Tester}
 use Rattle.events.specs.declared.Event.{Event}
 use Rattle.reports.specs.Counting.{zeroCounts}
 use Rattle.reports.specs.declared.Counts.{Counts}
-use Rattle.link.specs.Handling.{freshLink}
-use Rattle.link.specs.declared.Link.{Link}
 use Rattle.demands.specs.Logs.{Log, clockOf, countOf, numberAfter, takenOf}
 use Rattle.demands.specs.Refusals.{Not, Unknown, TooLate, Above, Numbered}
 use Rattle.demands.specs.Frames.{BuildNumbered, ReadNumbered, Allowed}
-use Rattle.demands.specs.Histories.{Step, after, answerTo, AsBefore}
+use Rattle.demands.specs.Histories.{Machine, after, answerTo, AsBefore}
 
--- One of them: a byte 55 from the tester at the very beginning.
+-- an event: a byte 55 from the tester at the very beginning
 abbrev pub someEvent : Event
 someEvent = record { start = micros 0; end = micros 960; kind = Byte; side = Tester; value = 0x55 }
 
--- DEMAND 1, of any step
-pub record DemandOne (step : Step) : Type 0 where
-  -- THE NUMBER OF AN EVENT, for any link, any counts, any event: 1, 2, 3 or 4 exactly when its condition holds and that of no smaller number does, and
-  -- 0 exactly when none of the four holds. There is no other number.
-  pub numbered : (l : Link) (c : Counts) (e : Event) → Numbered (l .clock) (l .taken) c e (step l c e .answer .no)
-  -- A REFUSED EVENT CHANGES NOTHING, for any link, any counts, any event: with a number other than 0, the link and the counts are as they were, and
-  -- there is no report.
-  pub refused-as-before : (l : Link) (c : Counts) (e : Event) → Not (step l c e .answer .no ≡ 0) → AsBefore l c (step l c e)
+-- DEMAND 1, of any link
+pub record DemandOne (m : Machine) : Type 0 where
+  -- THE NUMBER OF AN EVENT, behind any events from a fresh link, with any lent counts: 1, 2, 3 or 4 exactly when its condition holds and that of no
+  -- smaller number does, and 0 exactly when none of the four holds. There is no other number.
+  pub numbered : (es : Log) (c : Counts) (e : Event)
+      → Numbered (clockOf (takenOf es)) (countOf (takenOf es)) c e (m .step (after m es .link) c e .no)
+  -- A REFUSED EVENT CHANGES NOTHING, for any inner state, any counts, any event: with a number other than 0, the link and the counts are as they were,
+  -- and there is no report.
+  pub refused-as-before : (l : m .Inner) (c : Counts) (e : Event) → Not (m .step l c e .no ≡ 0) → AsBefore l c (m .step l c e)
   -- A FRESH LINK TAKES EVENTS: with zero counts, every one whose kind and side are known, whose times are not too late, and which starts no later than
-  -- it ends.
-  pub fresh-takes : (e : Event) → Not (Unknown e) → Not (TooLate e) → e .start .0 ≤ e .end .0 → step freshLink zeroCounts e .answer .no ≡ 0
-  pub some-event-taken : step freshLink zeroCounts someEvent .answer .no ≡ 0
+  -- it ends; such as this one.
+  pub fresh-takes : (e : Event) → Not (Unknown e) → Not (TooLate e) → e .start .0 ≤ e .end .0 → m .step (m .fresh) zeroCounts e .no ≡ 0
+  pub some-event-taken : m .step (m .fresh) zeroCounts someEvent .no ≡ 0
   -- THE NUMBERS OF A HISTORY, behind any events from a fresh link with zero counts that only the link changes: the number of the next event is the one
   -- that the events taken before it give, ..
-  pub history-numbers : (es : Log) (e : Event) → answerTo step es e .no ≡ numberAfter (takenOf es) e
+  pub history-numbers : (es : Log) (e : Event) → answerTo m es e .no ≡ numberAfter (takenOf es) e
   -- .. which is 1, 2, 3 or 4 exactly when its condition holds, at the end of the last event taken and the number of them, and 0 exactly when none does:
   -- the counts can be left out, ..
   pub history-numbered : (es : Log) (e : Event)
-      → Numbered (clockOf (takenOf es)) (countOf (takenOf es)) zeroCounts e (answerTo step es e .no)
+      → Numbered (clockOf (takenOf es)) (countOf (takenOf es)) zeroCounts e (answerTo m es e .no)
   -- .. since none of them ever comes to be above 4,000,000,000.
-  pub never-above : (es : Log) → Not (Above (after step es .counts))
+  pub never-above : (es : Log) → Not (Above (after m es .counts))
   -- ---- FRAMES AND TIMING CODES
   -- Building gets 5, 6, 7 or 8 exactly when its condition holds and that of no smaller number does, and 0 exactly when none does: for every plan, data
   -- and buffer. Where it is refused, the buffer is as it was, and the length is 0.

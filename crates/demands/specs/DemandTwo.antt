@@ -3,7 +3,7 @@
 -- 01's rules give."
 -- Assumes nothing.
 use Prim.Native.Nat.{ℕ, _+_, _≤_, _<_}
-use mathlib.Core.Bool.{true, false, _&&_}
+use mathlib.Core.Bool.{_&&_}
 use mathlib.Core.List.{List}
 use mathlib.Core.Logic.{_↔_, _⊎_}
 use mathlib.Core.Path.{_≡_}
@@ -12,35 +12,32 @@ use lib.ListN.{length, getD}
 use Rattle.base.specs.Numbers.{taken}
 use Rattle.base.specs.Reports.{frameReport, damageReport, connectedReport, failedReport, outsideReport, noReplyReport, downReport, notIdleReport}
 use Rattle.base.specs.Reports.{closed, windowOver, wrongLow, stopped, idleOver}
-use Rattle.keys.specs.Keys.{goodPair}
-use Rattle.keys.proofs.Eighteen.{eighteen, isIn}
+use Rattle.keys.specs.Keys.{goodPair, eighteen, isIn}
 use Rattle.timing.specs.Timing.{p2Half, normalSet, extendedSet, decodedOf, notEncoded, encodedOf}
 use Rattle.timing.specs.declared.Windows.{Windows}
 use Rattle.timing.specs.declared.Codes.{Codes}
-use Rattle.timing.proofs.P2Table.{table}
-use Rattle.timing.proofs.RoundTrip.{Bytes, HasCodes}
-use Rattle.timing.proofs.Sets.{normalCodes, extendedCodes, CodesOfSet}
+use Rattle.timing.specs.P2Table.{table}
+use Rattle.timing.specs.Coded.{Bytes, HasCodes, normalCodes, extendedCodes, CodesOfSet}
 use Rattle.frame.specs.Build.{Builds}
 use Rattle.frame.specs.Read.{readOf}
 use Rattle.frame.specs.declared.Plan.{Plan}
 use Rattle.frame.specs.declared.Built.{Built}
-use Rattle.frame.proofs.RoundTrip.{SumsUp, BuiltReadsBack}
-use Rattle.frame.proofs.WellRead.{IsFrame}
+use Rattle.frame.specs.Layout.{SumsUp}
+use Rattle.frame.specs.Announced.{IsFrame}
+use Rattle.frame.specs.ReadsBack.{BuiltReadsBack}
 use Rattle.events.specs.declared.Kind.the-variants.{Byte, Drop}
 use Rattle.events.specs.declared.Event.{Event}
-use Rattle.events.specs.declared.Side.{Side}
-use Rattle.talk.proofs.Frames.{isMessage}
-use Rattle.phases.specs.Phases.{isStarting, isConnected}
 use Rattle.reports.specs.declared.Report.{Report}
 use Rattle.demands.specs.Refusals.{Not}
 use Rattle.demands.specs.Logs.{Log, _▷_, InBytes, numberAfter, takenOf, heardIn, Begins}
-use Rattle.demands.specs.Histories.{Step, after, answerTo, reportsTo, reportsOf, Says, Among, Tells}
+use Rattle.demands.specs.Histories.{Machine, reportsTo, reportsOf, Says, Among, Tells}
 use Rattle.demands.specs.Accounts.{heldIn}
 use Rattle.demands.specs.Connecting.{Connects, Connected}
-use Rattle.demands.specs.Sessions.{Talk, Session, SomeSession, IsIn, Reads, OpensIn, Turns, gapBefore, NoReply}
+use Rattle.demands.specs.Sessions.{Talk, Session, SomeSession, Reads, OpensIn, Turns, gapBefore, NoReply}
 use Rattle.demands.specs.Each.{Formed}
 use Rattle.demands.specs.Failing.{UnderWay, Fails}
 use Rattle.demands.specs.Damage.{Damaged}
+use Rattle.demands.specs.Orders.{InOrder, NamesFailed}
 use Rattle.demands.specs.Endings.{Starter, NotIdle, WrongLow, Starting, AnswersStop, Downs}
 use Rattle.demands.specs.Messages.{EndsInFrame, ReportsFrame}
 
@@ -53,9 +50,6 @@ pub record Foundation : Type 0 where
   -- `read` takes exactly the frames that good key bytes announce, and their last byte is the sum of all before it
   pub read : (kb1 kb2 : ℕ) (s : List ℕ) → ((i : ℕ) → getD s i 0 < 256) → (readOf kb1 kb2 s .no ≡ taken) ↔ IsFrame kb1 kb2 s
   pub sums : (kb1 kb2 : ℕ) (s : List ℕ) → ((i : ℕ) → getD s i 0 < 256) → readOf kb1 kb2 s .no ≡ taken → SumsUp s
-  -- the link's rules, byte by byte, end a message in a frame exactly if `read` takes its bytes
-  pub messages : (kb1 kb2 : ℕ) (side : Side) (s : List ℕ) → goodPair kb1 kb2 ≡ true → ((i : ℕ) → getD s i 0 < 256)
-      → isMessage kb1 side s ≡ eqb (readOf kb1 kb2 s .no) taken
   -- the table of P2 max: its rule at each of its 256 entries
   pub p2max : (k : ℕ) → k < 256 → getD table k 0 ≡ p2Half k .0
   -- allowed codes become windows and are their codes; windows that have codes become them and are their windows; windows have codes exactly if
@@ -68,100 +62,98 @@ pub record Foundation : Type 0 where
   pub normal : CodesOfSet normalCodes normalSet
   pub extended : CodesOfSet extendedCodes extendedSet
 
--- DEMAND 2, of any step
-pub record DemandTwo (step : Step) : Type 0 where
+-- DEMAND 2, of any link
+pub record DemandTwo (m : Machine) : Type 0 where
   pub foundation : Foundation
   -- ---- b. THE LINK CONNECTS EXACTLY when every byte, complement and window of an initialization holds
   -- Over every list of events from a fresh link: the next event is answered with report 3 exactly if it is taken and completes an initialization. Which
   -- events are taken, and what completes one, is said of the events alone (specs/Logs.antt, Connecting.antt, Starts.antt).
   pub connects-exactly : (es : Log) (e : Event)
-      → Says connectedReport (reportsTo step es e) ↔ ((numberAfter (takenOf es) e ≡ taken) × Connects (takenOf es) e)
-  -- In the link's own words: it was not connected, and is connected after the event, exactly then.
-  pub becomes-connected-exactly : (es : Log) (e : Event)
-      → ((isConnected (after step es .link .phase .state) ≡ false) × (isConnected (after step (es ▷ e) .link .phase .state) ≡ true))
-      ↔ ((numberAfter (takenOf es) e ≡ taken) × Connects (takenOf es) e)
-  -- That report is the only one of its event and names all bytes of the initialization and no other; the link then has its key bytes, which are good, and
-  -- the windows of the set that KB1 names.
+      → Says connectedReport (reportsTo m es e) ↔ ((numberAfter (takenOf es) e ≡ taken) × Connects (takenOf es) e)
+  -- That report is the only one of its event and names all bytes of the initialization and no other; its key bytes are good.
   pub connects-names : (es : Log) (e : Event) → numberAfter (takenOf es) e ≡ taken → (c : Connects (takenOf es) e)
-      → Connected (takenOf es) e c (answerTo step es e)
+      → Connected (takenOf es) e c (reportsTo m es e)
   -- ---- c. WHAT THE LINK REPORTS AS 1 is a frame that `read` takes, and its timing is the one that the frames say
-  -- A session of the history lasts from an event that completes an initialization until a report 7; the link is connected exactly while one lasts.
+  -- A session of the history lasts from an event that completes an initialization until a report 7. Its windows are KB1's set, the allowed codes of the
+  -- latest tester frame, or as before, as `windowsIn` reads it off the session's frames; the reply that may come is the one that its last report leaves.
   -- (`InBytes`: values of events are bytes, as they are in the code.)
-  pub session-exactly : (es : Log) → InBytes es → (isConnected (after step es .link .phase .state) ≡ true) ↔ SomeSession step es
-  -- In it, the link's key bytes are good and the session's. Its windows are KB1's set, the allowed codes of the latest tester frame, or as before, as
-  -- `windowsIn` reads it off the session's frames; the reply that may come is the one that the session's last report leaves.
-  pub session-link : (es : Log) (t : Talk) → InBytes es → Session step es t → IsIn t (after step es .link)
   -- Each report 1 is made in a session and names bytes that `read` takes as a frame under the session's key bytes.
-  pub frames-read : (es : Log) (e : Event) (r : Report) → InBytes (es ▷ e) → Among r (reportsTo step es e) → r .number ≡ frameReport → Reads step es e r
+  pub frames-read : (es : Log) (e : Event) (r : Report) → InBytes (es ▷ e) → Among r (reportsTo m es e) → r .number ≡ frameReport → Reads m es e r
   -- And the other way round: a report 1 names these bytes exactly if the event is the byte that ends a message of the session in them. A message goes from
   -- a first byte that is neither early nor stray over bytes of the same side, no more than 20 ms apart, until `read` takes what was heard of it. Which
   -- byte is a first one, and whether it is early or stray, is said by the events before it and their reports, and by nothing that is reported of it.
   pub frames-exactly : (es : Log) (e : Event) (bytes : List ℕ) → InBytes (es ▷ e)
-      → ReportsFrame (heardIn (es ▷ e)) (reportsTo step es e) bytes ↔ EndsInFrame step es e bytes
+      → ReportsFrame (heardIn (es ▷ e)) (reportsTo m es e) bytes ↔ EndsInFrame m es e bytes
   -- ---- d. DAMAGE, STRAY AND EARLY
   -- A report 1 or 2 names bytes from the first byte of a message on, and it is a damage with reason 3, or 4, exactly if that byte was early, or stray, by
   -- its side and its gap under the windows in force then, and by the reply that may come behind the time before it.
-  pub turns-exactly : (es : Log) (e : Event) (r : Report) → InBytes (es ▷ e) → Among r (reportsTo step es e)
-      → (r .number ≡ frameReport) ⊎ (r .number ≡ damageReport) → Turns step (es ▷ e) r
+  pub turns-exactly : (es : Log) (e : Event) (r : Report) → InBytes (es ▷ e) → Among r (reportsTo m es e)
+      → (r .number ≡ frameReport) ⊎ (r .number ≡ damageReport) → Turns m (es ▷ e) r
   -- No first byte escapes this: whatever events follow, the report that names a byte which opens a message begins with it.
-  pub opens-first : (before : Log) (b : Event) (t : Talk) → InBytes (before ▷ b) → OpensIn step before b t → (es : Log) → Begins (before ▷ b) es → InBytes es
-      → (r : Report) → Among r (reportsOf step es) → r .first ≤ length (heardIn before) → length (heardIn before) < r .first + r .bytes
+  pub opens-first : (before : Log) (b : Event) (t : Talk) → InBytes (before ▷ b) → OpensIn m before b t → (es : Log) → Begins (before ▷ b) es → InBytes es
+      → (r : Report) → Among r (reportsOf m es) → r .first ≤ length (heardIn before) → length (heardIn before) < r .first + r .bytes
       → r .first ≡ length (heardIn before)
   -- Report 2, in a session, exactly if something is held and either 20 ms have passed since the mark or A, W or D comes; ..
-  pub damage-exactly : (es : Log) (e : Event) (t : Talk) → InBytes es → Session step es t
-      → Says damageReport (reportsTo step es e)
-      ↔ ((numberAfter (takenOf es) e ≡ taken) × (0 < heldIn step es) × ((20_000 < gapBefore (takenOf es) e .0) ⊎ Starter e ⊎ (e .kind ≡ Drop)))
+  pub damage-exactly : (es : Log) (e : Event) (t : Talk) → InBytes es → Session m es t
+      → Says damageReport (reportsTo m es e)
+      ↔ ((numberAfter (takenOf es) e ≡ taken) × (0 < heldIn m es) × ((20_000 < gapBefore (takenOf es) e .0) ⊎ Starter e ⊎ (e .kind ≡ Drop)))
   -- .. and it names all that is held before the event, up to the last byte heard.
-  pub damage-names : (es : Log) (e : Event) (r : Report) → Among r (reportsTo step es e) → r .number ≡ damageReport
-      → (r .bytes ≡ heldIn step es) × (r .first + r .bytes ≡ length (heardIn es))
+  pub damage-names : (es : Log) (e : Event) (r : Report) → Among r (reportsTo m es e) → r .number ≡ damageReport
+      → (r .bytes ≡ heldIn m es) × (r .first + r .bytes ≡ length (heardIn es))
   -- Its reason is 3 or 4 exactly if its first byte was early or stray. Where it was neither, the reason is the one that the bytes named give under the
   -- session's KB1, by the first of them that fails (5, 6 or 8 the first byte, 7, 8 or 9 a later one); and where none fails, a message was held, and the
   -- reason is 1 if 20 ms have passed since the mark, and else 2.
-  pub damage-reasons : (es : Log) (e : Event) (r : Report) → InBytes (es ▷ e) → Among r (reportsTo step es e) → r .number ≡ damageReport
-      → Damaged step es e r
+  pub damage-reasons : (es : Log) (e : Event) (r : Report) → InBytes (es ▷ e) → Among r (reportsTo m es e) → r .number ≡ damageReport
+      → Damaged m es e r
   -- Outside a session there is neither a report 1 nor a report 2.
-  pub messages-in-session : (es : Log) (e : Event) (r : Report) → InBytes (es ▷ e) → Among r (reportsTo step es e)
-      → (r .number ≡ frameReport) ⊎ (r .number ≡ damageReport) → SomeSession step es
+  pub messages-in-session : (es : Log) (e : Event) (r : Report) → InBytes (es ▷ e) → Among r (reportsTo m es e)
+      → (r .number ≡ frameReport) ⊎ (r .number ≡ damageReport) → SomeSession m es
   -- ---- e. THE OTHER REPORTS
   -- Report 7 and its reasons, in a session: idle too long, dropped, restarted; ..
-  pub downs-exactly : (es : Log) (e : Event) (t : Talk) → InBytes es → Session step es t → Downs step es e t
+  pub downs-exactly : (es : Log) (e : Event) (t : Talk) → InBytes es → Session m es t → Downs m es e t
   -- .. and stopped, exactly by a frame from the unit that answers a stop.
-  pub stops-exactly : (es : Log) (e : Event) (t : Talk) → InBytes (es ▷ e) → Session step es t
-      → Tells downReport stopped (reportsTo step es e) ↔ AnswersStop step t es e
+  pub stops-exactly : (es : Log) (e : Event) (t : Talk) → InBytes (es ▷ e) → Session m es t
+      → Tells downReport stopped (reportsTo m es e) ↔ AnswersStop m t es e
   -- Report 6, in a session, exactly if a first reply is awaited and P2 max has passed.
-  pub no-reply-exactly : (es : Log) (e : Event) (t : Talk) → InBytes es → Session step es t
-      → Says noReplyReport (reportsTo step es e)
-      ↔ ((numberAfter (takenOf es) e ≡ taken) × NoReply t (heldIn step es) (gapBefore (takenOf es) e))
+  pub no-reply-exactly : (es : Log) (e : Event) (t : Talk) → InBytes es → Session m es t
+      → Says noReplyReport (reportsTo m es e)
+      ↔ ((numberAfter (takenOf es) e ≡ taken) × NoReply t (heldIn m es) (gapBefore (takenOf es) e))
   -- Outside a session there is neither.
   pub only-in-session : (es : Log) (e : Event) → InBytes es
-      → Says noReplyReport (reportsTo step es e) ⊎ Says downReport (reportsTo step es e) → SomeSession step es
+      → Says noReplyReport (reportsTo m es e) ⊎ Says downReport (reportsTo m es e) → SomeSession m es
   -- Report 8 exactly if an address or a wake-up comes before 300 ms are over since the mark; ..
   pub not-idle-exactly : (es : Log) (e : Event)
-      → Says notIdleReport (reportsTo step es e) ↔ ((numberAfter (takenOf es) e ≡ taken) × NotIdle (takenOf es) e)
+      → Says notIdleReport (reportsTo m es e) ↔ ((numberAfter (takenOf es) e ≡ taken) × NotIdle (takenOf es) e)
   -- .. report 4 with reason 3 exactly if a wake-up comes later, and is low for less than 24 or more than 26 ms.
   pub wrong-low-exactly : (es : Log) (e : Event)
-      → Tells failedReport wrongLow (reportsTo step es e) ↔ ((numberAfter (takenOf es) e ≡ taken) × WrongLow (takenOf es) e)
-  -- Every other address or wake-up that is taken starts an initialization, and it lasts until a report 3 or 4: exactly so long the link is in one.
-  pub starting-exactly : (es : Log) → (isStarting (after step es .link .phase .state) ≡ true) ↔ Starting step es
+      → Tells failedReport wrongLow (reportsTo m es e) ↔ ((numberAfter (takenOf es) e ≡ taken) × WrongLow (takenOf es) e)
+  -- Every other address or wake-up that is taken starts an initialization, and it lasts until a report 3 or 4 (`Starting`).
   -- In an initialization, by its start and its bytes so far and by what is due next: report 4 with reason 1 exactly if the present window's end has
   -- passed, with reason 4, 5 or 6 exactly if the byte in time is from the wrong side, else early, else does not fit; report 3 exactly if it is right and
   -- the last; and otherwise the initialization goes on.
-  pub fails-exactly : (es : Log) (e : Event) → Starting step es → (u : UnderWay (takenOf es)) → Fails step es e u
-  pub under-way : (es : Log) → Starting step es → UnderWay (takenOf es)
+  pub fails-exactly : (es : Log) (e : Event) → Starting m es → (u : UnderWay (takenOf es)) → Fails m es e u
+  pub under-way : (es : Log) → Starting m es → UnderWay (takenOf es)
   -- Report 4 with reason 2 exactly if A, W or D comes in an initialization, and makes no report 4 with reason 1.
   pub closed-start-exactly : (es : Log) (e : Event)
-      → Tells failedReport closed (reportsTo step es e)
-      ↔ ((numberAfter (takenOf es) e ≡ taken) × Starting step es × (Starter e ⊎ (e .kind ≡ Drop)) × Not (Tells failedReport windowOver (reportsTo step es e)))
+      → Tells failedReport closed (reportsTo m es e)
+      ↔ ((numberAfter (takenOf es) e ≡ taken) × Starting m es × (Starter e ⊎ (e .kind ≡ Drop)) × Not (Tells failedReport windowOver (reportsTo m es e)))
   -- Outside an initialization a report 4 is one of a wrong low.
-  pub never-else : (es : Log) (e : Event) (k : ℕ) → Not (Starting step es) → Tells failedReport k (reportsTo step es e) → k ≡ wrongLow
+  pub never-else : (es : Log) (e : Event) (k : ℕ) → Not (Starting m es) → Tells failedReport k (reportsTo m es e) → k ≡ wrongLow
   -- Report 5 exactly if a byte comes in neither a session nor an initialization, or in one that ended as time passed to the byte (report 4 with reason 1,
   -- or report 7 with reason 2, at the same event).
   pub outside-exactly : (es : Log) (e : Event) → InBytes es
-      → Says outsideReport (reportsTo step es e)
+      → Says outsideReport (reportsTo m es e)
       ↔ ((numberAfter (takenOf es) e ≡ taken) × (e .kind ≡ Byte)
-      × ((Not (SomeSession step es) × Not (Starting step es))
-      ⊎ Tells failedReport windowOver (reportsTo step es e)
-      ⊎ Tells downReport idleOver (reportsTo step es e)))
+      × ((Not (SomeSession m es) × Not (Starting m es))
+      ⊎ Tells failedReport windowOver (reportsTo m es e)
+      ⊎ Tells downReport idleOver (reportsTo m es e)))
+  -- Bytes are held in a session or in an initialization only. ("Bytes held are those of the open message, damage or initialization".)
+  pub none-held : (es : Log) → InBytes es → Not (SomeSession m es) → Not (Starting m es) → heldIn m es ≡ 0
   -- Each report of an event has the event's end as its time, a number from 1 to 8, a reason that its number has and none where it has none; 6, 7 and 8 name
   -- no byte, 5 names one, 1, 2 and 3 at least one.
-  pub each-formed : (es : Log) (e : Event) (r : Report) → Among r (reportsTo step es e) → Formed e r
+  pub each-formed : (es : Log) (e : Event) (r : Report) → Among r (reportsTo m es e) → Formed e r
+  -- ---- f. THE REPORTS OF ONE EVENT
+  -- They come in the order of the rules, and no rule reports twice.
+  pub in-order : (es : Log) (e : Event) → InOrder 0 (reportsTo m es e)
+  -- A report 4 names all bytes that were held for reasons 1 and 2, none for 3, and for 4, 5 and 6 these and the byte that fails.
+  pub failed-names : (es : Log) (e : Event) (r : Report) → Among r (reportsTo m es e) → r .number ≡ failedReport → NamesFailed (heldIn m es) r

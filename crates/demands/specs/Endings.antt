@@ -16,7 +16,7 @@ use Rattle.events.specs.declared.Event.{Event}
 use Rattle.reports.specs.declared.Report.{Report}
 use Rattle.demands.specs.Logs.{Log, _▷_, markOf, numberAfter, takenOf, heardIn}
 use Rattle.demands.specs.Refusals.{Not}
-use Rattle.demands.specs.Histories.{Step, reportsTo, Says, Among, Tells}
+use Rattle.demands.specs.Histories.{Machine, reportsTo, Says, Among, Tells}
 use Rattle.demands.specs.Starts.{Low}
 use Rattle.demands.specs.Accounts.{namedBy, heldIn}
 use Rattle.demands.specs.Sessions.{Frames, stops, pendingIn, Talk, gapBefore, IdleOver}
@@ -34,11 +34,11 @@ abbrev pub WrongLow : Log → Event → Type 0
 WrongLow log e = (e .kind ≡ WakeUp) × (markOf log .0 + 300_000 ≤ e .start .0) × Not (Low e)
 
 -- ---- AN INITIALIZATION of the history: from an address or wake-up on that was idle long enough and low long enough, as long as no report 3 or 4 is made.
-pub data Starting (step : Step) : Log → Type 0 where
+pub data Starting (m : Machine) : Log → Type 0 where
   starts : {es : Log} {e : Event} → numberAfter (takenOf es) e ≡ taken → Starter e → Not (NotIdle (takenOf es) e) → Not (WrongLow (takenOf es) e)
-      → Starting step (es ▷ e)
-  goes-on : {es : Log} {e : Event} → Starting step es → Not (Says connectedReport (reportsTo step es e)) → Not (Says failedReport (reportsTo step es e))
-      → Starting step (es ▷ e)
+      → Starting m (es ▷ e)
+  goes-on : {es : Log} {e : Event} → Starting m es → Not (Says connectedReport (reportsTo m es e)) → Not (Says failedReport (reportsTo m es e))
+      → Starting m (es ▷ e)
 
 -- ---- what ends a session
 -- "a unit frame starting C2 after a tester frame starting 82": among these reports of an event from this side is a frame from the unit that answers a
@@ -52,15 +52,15 @@ pub record Answers (kb1 kb2 : ℕ) (fs : Frames) (side : Side) (heard : List ℕ
   pub stop : stops (pendingIn kb1 kb2 fs) (dataOf kb1 kb2 (namedBy heard report)) ≡ true
 
 -- in the session t, behind es, the event e is reported as such a frame
-abbrev pub AnswersStop : Step → Talk → Log → Event → Type 0
-AnswersStop step t es e = Answers (t .kb1) (t .kb2) (t .frames) (e .side) (heardIn (es ▷ e)) (reportsTo step es e)
+abbrev pub AnswersStop : Machine → Talk → Log → Event → Type 0
+AnswersStop m t es e = Answers (t .kb1) (t .kb2) (t .frames) (e .side) (heardIn (es ▷ e)) (reportsTo m es e)
 
 -- report 7 and its reasons, in the session t: 2 "no first reply awaited, P3 max passed"; "if connected, report 7 (reason 4 for A or W, 3 for D)". (Reason
 -- 1 is for a stop that the unit answers: `stops-exactly`.)
-pub record Downs (step : Step) (es : Log) (e : Event) (t : Talk) : Type 0 where
-  pub idle : Tells downReport idleOver (reportsTo step es e)
-      ↔ ((numberAfter (takenOf es) e ≡ taken) × IdleOver t (heldIn step es) (gapBefore (takenOf es) e))
-  pub dropped : Tells downReport dropped (reportsTo step es e)
-      ↔ ((numberAfter (takenOf es) e ≡ taken) × (e .kind ≡ Drop) × Not (IdleOver t (heldIn step es) (gapBefore (takenOf es) e)))
-  pub restarted : Tells downReport restarted (reportsTo step es e)
-      ↔ ((numberAfter (takenOf es) e ≡ taken) × Starter e × Not (IdleOver t (heldIn step es) (gapBefore (takenOf es) e)))
+pub record Downs (m : Machine) (es : Log) (e : Event) (t : Talk) : Type 0 where
+  pub idle : Tells downReport idleOver (reportsTo m es e)
+      ↔ ((numberAfter (takenOf es) e ≡ taken) × IdleOver t (heldIn m es) (gapBefore (takenOf es) e))
+  pub dropped : Tells downReport dropped (reportsTo m es e)
+      ↔ ((numberAfter (takenOf es) e ≡ taken) × (e .kind ≡ Drop) × Not (IdleOver t (heldIn m es) (gapBefore (takenOf es) e)))
+  pub restarted : Tells downReport restarted (reportsTo m es e)
+      ↔ ((numberAfter (takenOf es) e ≡ taken) × Starter e × Not (IdleOver t (heldIn m es) (gapBefore (takenOf es) e)))

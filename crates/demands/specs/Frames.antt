@@ -4,13 +4,15 @@ use mathlib.Core.Path.{_≡_}
 use mathlib.Core.Bool.{true, false}
 use mathlib.Core.List.{List}
 use mathlib.Core.Logic.{_↔_, _⊎_}
+use lib.Dec.{eqb, leb}
 use lib.ListN.{length, getD, take}
+use Rattle.base.specs.Choice.{if_then_else_}
 use Rattle.units.specs.declared.Micros.{Micros}
 use Rattle.keys.specs.Keys.{goodPair, lengthInFormat, extraLength, noAddresses, withAddresses, isExtended}
 use Rattle.timing.specs.Timing.{noLimit}
 use Rattle.timing.specs.declared.Limit.{Limit}
 use Rattle.timing.specs.declared.Windows.{Windows}
-use Rattle.frame.specs.Layout.{formatForm, addressCount, total}
+use Rattle.frame.specs.Layout.{total}
 use Rattle.frame.specs.Build.{sizeOf}
 use Rattle.frame.specs.Read.{formatByte}
 use Rattle.frame.specs.declared.Plan.{Plan}
@@ -65,7 +67,7 @@ lowSix s = formatByte s % 64
 -- "Then target and source in modes 10 and 11, then the extra length byte if any": how many addresses there are, and the byte behind them, 0 where the
 -- slice has none
 abbrev pub addressesIn : List ℕ → ℕ
-addressesIn s = addressCount (formatForm (formatByte s))
+addressesIn s = if leb 2 (modeOf s) then 2 else 0
 
 abbrev pub extraByte : List ℕ → ℕ
 extraByte s = getD s (1 + addressesIn s) 0
@@ -85,13 +87,12 @@ abbrev pub NotPlaced : ℕ → List ℕ → Type 0
 NotPlaced kb1 s = (Not (lowSix s ≡ 0) × (lengthInFormat kb1 ≡ false)) ⊎ ((lowSix s ≡ 0) × (extraLength kb1 ≡ false))
 
 -- so many bytes the header says that the frame has: format byte, addresses, extra length byte if any, data, and the checksum
-abbrev pub HeaderSays : List ℕ → ℕ → Type 0
-HeaderSays s size =
-    (Not (lowSix s ≡ 0) × (size ≡ 1 + addressesIn s + lowSix s + 1)) ⊎ ((lowSix s ≡ 0) × (size ≡ 1 + addressesIn s + 1 + extraByte s + 1))
+abbrev pub sizeSaid : List ℕ → ℕ
+sizeSaid s = if eqb (lowSix s) 0 then 1 + addressesIn s + 1 + extraByte s + 1 else 1 + addressesIn s + lowSix s + 1
 
 -- 7: "An empty frame to be read is 7 if the key bytes are good"; "a length byte of 0, or a slice longer or shorter than the header says, is 7"
 abbrev pub BadSlice : ℕ → List ℕ → Type 0
-BadSlice kb1 s = (length s ≡ 0) ⊎ NotPlaced kb1 s ⊎ ((lowSix s ≡ 0) × (extraByte s ≡ 0)) ⊎ Not (HeaderSays s (length s))
+BadSlice kb1 s = (length s ≡ 0) ⊎ NotPlaced kb1 s ⊎ ((lowSix s ≡ 0) × (extraByte s ≡ 0)) ⊎ Not (length s ≡ sizeSaid s)
 
 -- 9: "checksum: the sum of all bytes before it, modulo 256"
 abbrev pub BadSum : List ℕ → Type 0

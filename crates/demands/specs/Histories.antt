@@ -1,54 +1,59 @@
--- What a step makes of events: from a fresh link with zero counts that only the link changes. Assumes nothing.
+-- Any link at all, and what it makes of events: from a fresh one with zero counts that only the link changes. Assumes nothing.
 use Prim.Native.Nat.{ℕ}
 use mathlib.Core.Bool.{Bool, true, false, _||_}
 use mathlib.Core.List.{List, [], _∷_, _++_}
 use mathlib.Core.Path.{_≡_}
 use lib.Dec.{eqb}
 use Rattle.events.specs.declared.Event.{Event}
-use Rattle.reports.specs.Reporting.{noReports, listed}
 use Rattle.reports.specs.Counting.{zeroCounts}
 use Rattle.reports.specs.declared.Report.{Report}
 use Rattle.reports.specs.declared.Counts.{Counts}
-use Rattle.link.specs.Handling.{freshLink}
-use Rattle.link.specs.Stepping.{stepOf}
-use Rattle.link.specs.declared.Link.{Link}
-use Rattle.link.specs.declared.Answer.{Answer}
-use Rattle.link.specs.declared.Stepped.{Stepped}
 use Rattle.demands.specs.Logs.{Log, none, _▷_}
 
--- A step: any link, any counts, any event. The demands are said of any step, and proved of the one that `link::step` promises; of other steps, the
--- wrong programs of document 01, it is proved that they break them.
-abbrev pub Step : Type 0
-Step = Link → Counts → Event → Stepped
-
-abbrev pub ourStep : Step
-ourStep = stepOf
-
--- what a host keeps
-pub record Host : Type 0 where
-  pub link : Link
+-- what a link answers to an event: a number, reports in order, and the counts brought up to date; and what it is then
+pub record Told (Inner : Type 0) : Type 0 where
+  pub link : Inner
+  pub no : ℕ
+  pub reports : List Report
   pub counts : Counts
 
-abbrev pub kept : Stepped → Host
-kept s = record { link = s .answer .link; counts = s .counts }
+-- ANY LINK AT ALL: what it may be inside, a fresh one, a step for any event with any counts lent, and how many bytes it shows to be held. The demands are said
+-- of any such machine, and look at nothing inside it.
+pub record Machine : Type 1 where
+  pub Inner : Type 0
+  pub fresh : Inner
+  pub step : Inner → Counts → Event → Told Inner
+  pub held : Inner → ℕ
+
+-- what a host keeps
+pub record Host (Inner : Type 0) : Type 0 where
+  pub link : Inner
+  pub counts : Counts
+
+abbrev pub kept : {Inner : Type 0} → Told Inner → Host Inner
+kept s = record { link = s .link; counts = s .counts }
 
 -- after events: the host's link and counts
-unfoldable pub after : Step → Log → Host
-after step none = record { link = freshLink; counts = zeroCounts }
-after step (es ▷ e) = kept (step (after step es .link) (after step es .counts) e)
+unfoldable pub after : (m : Machine) → Log → Host (m .Inner)
+after m none = record { link = m .fresh; counts = zeroCounts }
+after m (es ▷ e) = kept (m .step (after m es .link) (after m es .counts) e)
 
 -- the answer to an event behind events
-abbrev pub answerTo : Step → Log → Event → Answer
-answerTo step es e = step (after step es .link) (after step es .counts) e .answer
+abbrev pub answerTo : (m : Machine) → Log → Event → Told (m .Inner)
+answerTo m es e = m .step (after m es .link) (after m es .counts) e
 
 -- its reports
-abbrev pub reportsTo : Step → Log → Event → List Report
-reportsTo step es e = listed (answerTo step es e .reports)
+abbrev pub reportsTo : Machine → Log → Event → List Report
+reportsTo m es e = answerTo m es e .reports
 
 -- all reports, in order
-unfoldable pub reportsOf : Step → Log → List Report
-reportsOf step none = []
-reportsOf step (es ▷ e) = reportsOf step es ++ reportsTo step es e
+unfoldable pub reportsOf : Machine → Log → List Report
+reportsOf m none = []
+reportsOf m (es ▷ e) = reportsOf m es ++ reportsTo m es e
+
+-- how many bytes it shows to be held behind events
+abbrev pub heldBy : Machine → Log → ℕ
+heldBy m es = m .held (after m es .link)
 
 -- a report of this number is among them
 unfoldable pub isAmong : ℕ → List Report → Bool
@@ -70,8 +75,8 @@ pub record Tells (number reason : ℕ) (rs : List Report) : Type 0 where
   pub number-is : report .number ≡ number
   pub reason-is : report .reason ≡ reason
 
--- a step left everything as it was
-pub record AsBefore (l : Link) (c : Counts) (s : Stepped) : Type 0 where
-  pub link : s .answer .link ≡ l
+-- everything is as it was
+pub record AsBefore {Inner : Type 0} (l : Inner) (c : Counts) (s : Told Inner) : Type 0 where
+  pub link : s .link ≡ l
   pub counts : s .counts ≡ c
-  pub reports : s .answer .reports ≡ noReports
+  pub reports : s .reports ≡ []

@@ -3,6 +3,9 @@ pub mod Refusals
 pub mod Frames
 pub mod Wrong
 pub mod Histories
+pub mod Ours
+pub mod OurLink
+pub mod Orders
 pub mod Starts
 pub mod Connecting
 pub mod Accounts
@@ -16,3 +19,5 @@ pub mod Damage
 pub mod DemandOne
 pub mod DemandTwo
 pub mod DemandThree
+pub mod Deciding
+pub mod Beside

@@ -27,6 +27,11 @@ unfoldable pub markOf : Log → Micros
 markOf none = micros 0
 markOf (log ▷ e) = if marks (e .kind) then e .end else markOf log
 
+-- the events, oldest first
+unfoldable pub eventsOf : Log → List Event
+eventsOf none = []
+eventsOf (log ▷ e) = eventsOf log ++ (e ∷ [])
+
 -- how many events
 unfoldable pub countOf : Log → ℕ
 countOf none = 0

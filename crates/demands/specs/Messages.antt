@@ -13,15 +13,15 @@ use Rattle.events.specs.declared.Event.{Event}
 use Rattle.reports.specs.declared.Report.{Report}
 use Rattle.demands.specs.Logs.{Log, _▷_, markOf, numberAfter, takenOf}
 use Rattle.demands.specs.Refusals.{Not}
-use Rattle.demands.specs.Histories.{Step, Among}
+use Rattle.demands.specs.Histories.{Machine, Among}
 use Rattle.demands.specs.Accounts.{namedBy}
 use Rattle.demands.specs.Sessions.{Talk, OpensIn, EarlyAt, StrayAt}
 
 -- "First byte of a message": a byte that opens one in the session t of the events before it, and is neither early nor stray
-pub record OpensMessage (step : Step) (t : Talk) (before : Log) (b : Event) : Type 0 where
-  pub opens : OpensIn step before b t
-  pub timely : Not (EarlyAt step before b t)
-  pub expected : Not (StrayAt step before b t)
+pub record OpensMessage (m : Machine) (t : Talk) (before : Log) (b : Event) : Type 0 where
+  pub opens : OpensIn m before b t
+  pub timely : Not (EarlyAt m before b t)
+  pub expected : Not (StrayAt m before b t)
 
 -- "20 ms passed since the mark" is not so at the event's start; "'Passed' is strict"
 abbrev pub InTime : Log → Event → Type 0
@@ -29,20 +29,20 @@ InTime log e = e .start .0 ≤ markOf log .0 + 20_000
 
 -- A MESSAGE: the log ends in its first byte b, and then in refused events, ticks in time, and bytes in time from the same side ("other side (7)"). A
 -- byte goes on with it as long as `read` does not take the bytes before it: "A right checksum is report 1."
-pub data Speaks (step : Step) (t : Talk) (b : Event) : Log → List ℕ → Type 0 where
-  begins : {before : Log} → OpensMessage step t before b → Speaks step t b (before ▷ b) (b .value ∷ [])
-  refused : {log : Log} {bytes : List ℕ} {e : Event} → Speaks step t b log bytes → Not (numberAfter (takenOf log) e ≡ taken) → Speaks step t b (log ▷ e) bytes
-  waits : {log : Log} {bytes : List ℕ} {e : Event} → Speaks step t b log bytes → numberAfter (takenOf log) e ≡ taken → e .kind ≡ Tick
-      → InTime (takenOf log) e → Speaks step t b (log ▷ e) bytes
-  grows : {log : Log} {bytes : List ℕ} {e : Event} → Speaks step t b log bytes → Not (readOf (t .kb1) (t .kb2) bytes .no ≡ taken)
+pub data Speaks (m : Machine) (t : Talk) (b : Event) : Log → List ℕ → Type 0 where
+  begins : {before : Log} → OpensMessage m t before b → Speaks m t b (before ▷ b) (b .value ∷ [])
+  refused : {log : Log} {bytes : List ℕ} {e : Event} → Speaks m t b log bytes → Not (numberAfter (takenOf log) e ≡ taken) → Speaks m t b (log ▷ e) bytes
+  waits : {log : Log} {bytes : List ℕ} {e : Event} → Speaks m t b log bytes → numberAfter (takenOf log) e ≡ taken → e .kind ≡ Tick
+      → InTime (takenOf log) e → Speaks m t b (log ▷ e) bytes
+  grows : {log : Log} {bytes : List ℕ} {e : Event} → Speaks m t b log bytes → Not (readOf (t .kb1) (t .kb2) bytes .no ≡ taken)
       → numberAfter (takenOf log) e ≡ taken → e .kind ≡ Byte → e .side ≡ b .side → InTime (takenOf log) e
-      → Speaks step t b (log ▷ e) (bytes ++ (e .value ∷ []))
+      → Speaks m t b (log ▷ e) (bytes ++ (e .value ∷ []))
 
 -- THE EVENT e ENDS A MESSAGE IN A FRAME: a byte that is taken, and with it `read` takes the message's bytes under the session's key bytes
-pub record EndsInFrame (step : Step) (es : Log) (e : Event) (bytes : List ℕ) : Type 0 where
+pub record EndsInFrame (m : Machine) (es : Log) (e : Event) (bytes : List ℕ) : Type 0 where
   pub talk : Talk
   pub first : Event
-  pub message : Speaks step talk first (es ▷ e) bytes
+  pub message : Speaks m talk first (es ▷ e) bytes
   pub kind : e .kind ≡ Byte
   pub number : numberAfter (takenOf es) e ≡ taken
   pub read : readOf (talk .kb1) (talk .kb2) bytes .no ≡ taken

@@ -11,6 +11,10 @@ use Rattle.reports.specs.declared.Counts.{Counts}
 abbrev pub Not : Type 0 → Type 0
 Not P = P → ⊥
 
+-- what always holds
+abbrev pub Always : Type 0
+Always = Unit {0}
+
 -- 1: "event kind or side unknown"; only a byte has a side
 abbrev pub Unknown : Event → Type 0
 Unknown e = (e .kind ≡ Other) ⊎ ((e .kind ≡ Byte) × (e .side ≡ Nobody))

@@ -14,7 +14,6 @@ use Rattle.base.specs.Numbers.{taken}
 use Rattle.base.specs.Reports.{frameReport, damageReport, noReplyReport, downReport, early, stray}
 use Rattle.units.specs.Units.{gapOf}
 use Rattle.units.specs.declared.Micros.{Micros}
-use Rattle.keys.specs.Keys.{goodPair}
 use Rattle.timing.specs.Timing.{setOf, decodedOf, isPassed}
 use Rattle.timing.specs.declared.Windows.{Windows}
 use Rattle.timing.specs.declared.Codes.{Codes}
@@ -27,12 +26,10 @@ use Rattle.events.specs.declared.Event.{Event}
 use Rattle.talk.specs.Talk.{isFirst, ifAllowed}
 use Rattle.talk.specs.declared.Reply.{Reply}
 use Rattle.talk.specs.declared.Reply.the-variants.{Never, First, Further}
-use Rattle.phases.specs.Phases.{isConnected}
 use Rattle.reports.specs.declared.Report.{Report}
-use Rattle.link.specs.declared.Link.{Link}
 use Rattle.demands.specs.Logs.{Log, _▷_, markOf, heardIn, numberAfter, takenOf, Begins}
 use Rattle.demands.specs.Refusals.{Not}
-use Rattle.demands.specs.Histories.{Step, reportsTo, Says}
+use Rattle.demands.specs.Histories.{Machine, reportsTo, Says}
 use Rattle.demands.specs.Connecting.{Connects}
 use Rattle.demands.specs.Accounts.{namedBy, heldIn}
 
@@ -117,32 +114,24 @@ talkAfter t side heard [] = t
 talkAfter t side heard (r ∷ rs) = talkAfter (afterReport t side heard r) side heard rs
 
 -- A SESSION: from an event that completes an initialization on, as long as no report 7 is made.
-pub data Session (step : Step) : Log → Talk → Type 0 where
-  opens : {es : Log} {e : Event} → numberAfter (takenOf es) e ≡ taken → (c : Connects (takenOf es) e) → Session step (es ▷ e) (opening (c .kb1) (c .kb2))
-  lasts : {es : Log} {e : Event} {t : Talk} → Session step es t → Not (Says downReport (reportsTo step es e))
-      → Session step (es ▷ e) (talkAfter t (e .side) (heardIn (es ▷ e)) (reportsTo step es e))
+pub data Session (m : Machine) : Log → Talk → Type 0 where
+  opens : {es : Log} {e : Event} → numberAfter (takenOf es) e ≡ taken → (c : Connects (takenOf es) e) → Session m (es ▷ e) (opening (c .kb1) (c .kb2))
+  lasts : {es : Log} {e : Event} {t : Talk} → Session m es t → Not (Says downReport (reportsTo m es e))
+      → Session m (es ▷ e) (talkAfter t (e .side) (heardIn (es ▷ e)) (reportsTo m es e))
 
 -- the history is in a session
-pub record SomeSession (step : Step) (es : Log) : Type 0 where
+pub record SomeSession (m : Machine) (es : Log) : Type 0 where
   pub talk : Talk
-  pub session : Session step es talk
+  pub session : Session m es talk
 
--- what a session says of its link
+-- the windows in force in it
 abbrev pub inForce : Talk → Windows
 inForce t = windowsIn (t .kb1) (t .kb2) (t .frames)
 
-pub record IsIn (t : Talk) (l : Link) : Type 0 where
-  pub connected : isConnected (l .phase .state) ≡ true
-  pub good : goodPair (t .kb1) (t .kb2) ≡ true
-  pub kb1 : l .phase .start .kb1 ≡ t .kb1
-  pub kb2 : l .phase .start .kb2 ≡ t .kb2
-  pub windows : l .phase .windows ≡ inForce t
-  pub reply : l .phase .reply ≡ t .reply
-
 -- ---- a report 1: the session that its event came in, and the frame that `read` takes under the session's key bytes
-pub record Reads (step : Step) (es : Log) (e : Event) (r : Report) : Type 0 where
+pub record Reads (m : Machine) (es : Log) (e : Event) (r : Report) : Type 0 where
   pub talk : Talk
-  pub session : Session step es talk
+  pub session : Session m es talk
   pub reads : readOf (talk .kb1) (talk .kb2) (namedBy (heardIn (es ▷ e)) r) .no ≡ taken
 
 -- ---- in a session, with so many bytes held and so long a gap from the mark to the event's start
@@ -162,12 +151,12 @@ IdleOver t held gap = (isPassed (inForce t .p3max) gap ≡ true) × (t .reply �
 -- ---- the first byte of a message: all of it is said by the events before the byte and their reports, whatever is reported of the byte itself
 -- A BYTE OPENS A MESSAGE, or damage ("First byte of a message"), in the session t of the events before it: it is taken, nothing was held before it or
 -- what was held has ended ("20 ms passed since the mark"), and the session has not.
-pub record OpensIn (step : Step) (before : Log) (b : Event) (t : Talk) : Type 0 where
-  pub session : Session step before t
+pub record OpensIn (m : Machine) (before : Log) (b : Event) (t : Talk) : Type 0 where
+  pub session : Session m before t
   pub kind : b .kind ≡ Byte
   pub number : numberAfter (takenOf before) b ≡ taken
-  pub alone : (heldIn step before ≡ 0) ⊎ (20_000 < gapBefore (takenOf before) b .0)
-  pub lasts : Not (IdleOver t (heldIn step before) (gapBefore (takenOf before) b))
+  pub alone : (heldIn m before ≡ 0) ⊎ (20_000 < gapBefore (takenOf before) b .0)
+  pub lasts : Not (IdleOver t (heldIn m before) (gapBefore (takenOf before) b))
 
 -- Time passes first. What was held for more than 20 ms has ended, and "After either, no reply is expected"; where nothing was held, a first reply that
 -- is awaited as P2 max passes is not awaited any more ("no reply is expected"). The reply that may come behind that, in the session t with so many
@@ -189,27 +178,27 @@ Early t reply gap b =
     ⊎ ((b .side ≡ Unit) × Not (Stray t reply gap b) × (gap .0 < inForce t .p2min .0))
 
 -- a byte behind these events, in their session t, is stray, or early
-abbrev pub StrayAt : Step → Log → Event → Talk → Type 0
-StrayAt step before b t =
+abbrev pub StrayAt : Machine → Log → Event → Talk → Type 0
+StrayAt m before b t =
     let gap = gapBefore (takenOf before) b in
-    Stray t (replyAt t (heldIn step before) gap) gap b
+    Stray t (replyAt t (heldIn m before) gap) gap b
 
-abbrev pub EarlyAt : Step → Log → Event → Talk → Type 0
-EarlyAt step before b t =
+abbrev pub EarlyAt : Machine → Log → Event → Talk → Type 0
+EarlyAt m before b t =
     let gap = gapBefore (takenOf before) b in
-    Early t (replyAt t (heldIn step before) gap) gap b
+    Early t (replyAt t (heldIn m before) gap) gap b
 
 -- the first of the bytes that a report names, in the history: the events before it, and their session
-pub record FirstByte (step : Step) (es : Log) (r : Report) : Type 0 where
+pub record FirstByte (m : Machine) (es : Log) (r : Report) : Type 0 where
   pub before : Log
   pub byte : Event
   pub talk : Talk
   pub begins : Begins (before ▷ byte) es
-  pub opens : OpensIn step before byte talk
+  pub opens : OpensIn m before byte talk
   pub index : length (heardIn before) ≡ r .first
 
 -- and whether it was early or stray is the report's reason 3 or 4, and nothing else is
-pub record Turns (step : Step) (es : Log) (r : Report) : Type 0 where
-  pub first : FirstByte step es r
-  pub early : ((r .number ≡ damageReport) × (r .reason ≡ early)) ↔ EarlyAt step (first .before) (first .byte) (first .talk)
-  pub stray : ((r .number ≡ damageReport) × (r .reason ≡ stray)) ↔ StrayAt step (first .before) (first .byte) (first .talk)
+pub record Turns (m : Machine) (es : Log) (r : Report) : Type 0 where
+  pub first : FirstByte m es r
+  pub early : ((r .number ≡ damageReport) × (r .reason ≡ early)) ↔ EarlyAt m (first .before) (first .byte) (first .talk)
+  pub stray : ((r .number ≡ damageReport) × (r .reason ≡ stray)) ↔ StrayAt m (first .before) (first .byte) (first .talk)

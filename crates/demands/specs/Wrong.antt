@@ -1,26 +1,30 @@
--- The wrong programs that document 01 wants shut out ("What a caller can rely on"), and the accident that must not come again, each as a step. That
--- each breaks a demand is proved in proofs/Shut.antt.
+-- The wrong programs that document 01 wants shut out ("What a caller can rely on"), the accident that must not come again, and four wrong links that the last
+-- two fields of demand 2 are there for. That each breaks a demand is proved in proofs/Shut.antt.
 -- Assumes nothing.
-use Prim.Native.Nat.{ℕ}
-use mathlib.Core.Bool.{Bool, true, not, _&&_}
+use Prim.Native.Nat.{ℕ, _+_, _-_}
+use mathlib.Core.Bool.{Bool, true, false, not, _&&_}
+use mathlib.Core.List.{List, [], _∷_, _++_}
 use lib.Dec.{eqb}
 use Rattle.base.specs.Choice.{if_then_else_}
 use Rattle.base.specs.Numbers.{taken, tooMany}
 use Rattle.base.specs.Sums.{countSum}
-use Rattle.base.specs.Reports.{outsideReport, noReason}
+use Rattle.base.specs.Reports.{failedReport, outsideReport, noReason}
 use Rattle.timing.specs.Timing.{sameWindows}
 use Rattle.events.specs.Events.{isByte}
 use Rattle.events.specs.declared.Event.{Event}
 use Rattle.phases.specs.Phases.{isQuiet, isHeld, down}
-use Rattle.reports.specs.Reporting.{noReports, appended}
+use Rattle.reports.specs.Reporting.{noReports, appended, listed}
 use Rattle.reports.specs.Counting.{countedEvent}
+use Rattle.reports.specs.declared.Report.{Report}
 use Rattle.reports.specs.declared.Reports.{Reports}
 use Rattle.reports.specs.declared.Counts.{Counts}
-use Rattle.link.specs.Handling.{markAfter}
+use Rattle.link.specs.Handling.{freshLink, markAfter}
 use Rattle.link.specs.Stepping.{numberOf, refusedBy, stepOf}
 use Rattle.link.specs.declared.Link.{Link}
-use Rattle.link.specs.declared.Answer.{Answer}
 use Rattle.link.specs.declared.Stepped.{Stepped}
+use Rattle.listing.specs.Listing.{heldOf}
+use Rattle.demands.specs.Histories.{Machine}
+use Rattle.demands.specs.Ours.{machineOf}
 
 -- other reports than the right ones, with the counts that fit them; other counts
 abbrev withReports : Counts → Stepped → Reports → Stepped
@@ -44,64 +48,143 @@ withFrames s frames = record {
 }
 
 -- "a link refusing everything"
-abbrev pub refusing : Link → Counts → Event → Stepped
-refusing l c e = record { answer = refusedBy l tooMany; counts = c }
+abbrev pub refusing : Machine
+refusing = machineOf (λ l c e. record { answer = refusedBy l tooMany; counts = c })
 
 -- "one reporting each byte as outside": it takes what is to be taken, and names and counts each byte
-abbrev outsideOnly : Link → Event → Reports
-outsideOnly l e =
-    if isByte (e .kind)
+abbrev pub outsideOnly : Bool → Link → Event → Reports
+outsideOnly byte l e =
+    if byte
     then appended noReports (record { first = l .heard; bytes = 1; time = e .end; number = outsideReport; reason = noReason })
     else noReports
 
-abbrev heardWith : Link → Event → ℕ
-heardWith l e = if isByte (e .kind) then countSum (l .heard) 1 else l .heard
+abbrev pub heardWith : Bool → Link → ℕ
+heardWith byte l = if byte then countSum (l .heard) 1 else l .heard
 
-abbrev outsideAnswer : Link → Event → Answer
-outsideAnswer l e = record {
-  link = record {
-    clock = e .end;
-    mark = markAfter l e;
-    taken = countSum (l .taken) 1;
-    heard = heardWith l e;
-    named = heardWith l e;
-    phase = down;
-  };
-  reports = outsideOnly l e;
-  no = taken;
+abbrev pub outsideLink : Link → Event → Link
+outsideLink l e = record {
+  clock = e .end;
+  mark = markAfter l e;
+  taken = countSum (l .taken) 1;
+  heard = heardWith (isByte (e .kind)) l;
+  named = heardWith (isByte (e .kind)) l;
+  phase = down;
 }
 
-abbrev pub outside : Link → Counts → Event → Stepped
-outside l c e =
-    if eqb (numberOf l c e) taken then record { answer = outsideAnswer l e; counts = countedEvent c (isByte (e .kind)) (outsideOnly l e) } else stepOf l c e
+abbrev pub outsideStep : Link → Counts → Event → Stepped
+outsideStep l c e =
+    let byte = isByte (e .kind) in
+    let rs = outsideOnly byte l e in
+    if eqb (numberOf l c e) taken then record { answer = record { link = outsideLink l e; reports = rs; no = taken }; counts = countedEvent c byte rs } else
+    stepOf l c e
+
+abbrev pub outside : Machine
+outside = machineOf outsideStep
 
 -- "a step that leaves the link unchanged"
-abbrev pub unchanged : Link → Counts → Event → Stepped
-unchanged l c e =
+abbrev pub unchanged : Machine
+unchanged = machineOf (λ l c e.
     let s = stepOf l c e in
-    record { answer = record { link = l; reports = s .answer .reports; no = s .answer .no }; counts = s .counts }
+    record { answer = record { link = l; reports = s .answer .reports; no = s .answer .no }; counts = s .counts })
 
 -- "a link that finishes on its first event and idles later"
-abbrev pub idling : Link → Counts → Event → Stepped
-idling l c e = if eqb (l .taken) 0 then stepOf l c e else record { answer = record { link = l; reports = noReports; no = taken }; counts = c }
+abbrev pub idling : Machine
+idling = machineOf (λ l c e. if eqb (l .taken) 0 then stepOf l c e else record { answer = record { link = l; reports = noReports; no = taken }; counts = c })
 
 -- one that "shows invented counts"
-abbrev pub inventing : Link → Counts → Event → Stepped
-inventing l c e = record {
+abbrev pub inventing : Machine
+inventing = machineOf (λ l c e. record {
   answer = stepOf l c e .answer;
   counts = record { heard = 7; framed = 7; damaged = 0; started = 0; outside = 0; frames = 1; damages = 0 };
-}
+})
 
 -- THE ACCIDENT: at a timing change, ..
 abbrev retimed : Link → Stepped → Bool
 retimed l s = isHeld (l .phase .state) && isQuiet (s .answer .link .phase .state) && not (sameWindows (l .phase .windows) (s .answer .link .phase .windows))
 
 -- .. the frame count stays one behind; ..
-abbrev pub behind : Link → Counts → Event → Stepped
-behind l c e = if retimed l (stepOf l c e) then withFrames (stepOf l c e) (c .frames) else stepOf l c e
+abbrev pub behind : Machine
+behind = machineOf (λ l c e. let s = stepOf l c e in if retimed l s then withFrames s (c .frames) else s)
 
 -- .. the reply is listed twice
-abbrev pub twice : Link → Counts → Event → Stepped
-twice l c e =
+abbrev pub twice : Machine
+twice = machineOf (λ l c e.
     let s = stepOf l c e in
-    if retimed l s then withReports c s (appended (s .answer .reports) (s .answer .reports .a)) else s
+    if retimed l s then withReports c s (appended (s .answer .reports) (s .answer .reports .a)) else s)
+
+-- ---- OUR LINK WITH ITS REPORTS CHANGED, and the counts that fit them: whatever can be seen of it beside them is as it should be
+-- each report's first index is the number of bytes named before it
+abbrev indexed : ℕ → List Report → List Report
+indexed n [] = []
+indexed n (r ∷ rs) =
+    record { first = n; bytes = r .bytes; time = r .time; number = r .number; reason = r .reason } ∷ indexed (n + r .bytes) rs
+
+abbrev changing : (List Report → List Report) → (List Report → Counts → Counts) → Machine
+changing f g = record {
+  Inner = Link;
+  fresh = freshLink;
+  step = λ l c e.
+      let s = stepOf l c e in
+      let rs = listed (s .answer .reports) in
+      record { link = s .answer .link; no = s .answer .no; reports = indexed (l .named) (f rs); counts = g rs (s .counts) };
+  held = heldOf;
+}
+
+abbrev sameCounts : List Report → Counts → Counts
+sameCounts rs c = c
+
+abbrev withBytes : ℕ → Report → Report
+withBytes n r = record { first = r .first; bytes = n; time = r .time; number = r .number; reason = r .reason }
+
+-- one that gives an event's reports in another order, the last one first: 8, 7, 2
+abbrev backwards : List Report → List Report
+backwards [] = []
+backwards (r ∷ rs) = backwards rs ++ (r ∷ [])
+
+abbrev pub disordered : Machine
+disordered = changing backwards sameCounts
+
+-- one that repeats a report without bytes: 6, 6
+abbrev again : List Report → List Report
+again [] = []
+again (r ∷ []) = if eqb (r .bytes) 0 then r ∷ r ∷ [] else r ∷ []
+again (r ∷ s ∷ rs) = r ∷ s ∷ rs
+
+abbrev pub repeating : Machine
+repeating = changing again sameCounts
+
+-- one that moves the byte of a report 4 to a report 5 behind it
+abbrev movesByte : List Report → Bool
+movesByte [] = false
+movesByte (r ∷ []) = false
+movesByte (r ∷ s ∷ []) = eqb (r .number) failedReport && eqb (r .bytes) 1 && eqb (s .number) outsideReport
+movesByte (r ∷ s ∷ t ∷ rs) = false
+
+abbrev outsideLater : List Report → List Report
+outsideLater [] = []
+outsideLater (r ∷ rs) = if movesByte (r ∷ rs) then withBytes 0 r ∷ (rs ++ rs) else r ∷ rs
+
+abbrev outsideCounted : List Report → Counts → Counts
+outsideCounted rs c =
+    if movesByte rs then record {
+      heard = c .heard;
+      framed = c .framed;
+      damaged = c .damaged;
+      started = c .started - 1;
+      outside = c .outside + 1;
+      frames = c .frames;
+      damages = c .damages;
+    } else c
+
+abbrev pub moving : Machine
+moving = changing outsideLater outsideCounted
+
+-- one that moves the bytes of a report 4 to another report 4 of the same event
+abbrev swapped : List Report → List Report
+swapped [] = []
+swapped (r ∷ []) = r ∷ []
+swapped (r ∷ s ∷ rs) =
+    if eqb (r .number) failedReport && eqb (s .number) failedReport then withBytes (s .bytes) r ∷ withBytes (r .bytes) s ∷ rs else r ∷ s ∷ rs
+
+abbrev pub shifting : Machine
+shifting = changing swapped sameCounts

@@ -1,5 +1,4 @@
--- What key bytes announce: good key bytes, a form they take, and a length in a place that they announce and that holds it. Of the announced
--- frames `build` makes those with the length in the format byte wherever it may stand there; `read` takes them all. Assumes nothing.
+-- The tests of building, and what they ask: where none refuses, the frame that is planned is announced and has room. Assumes nothing.
 use mathlib.Core.Path.{_≡_, refl, sym, ap, _∙_}
 use mathlib.Core.Bool.{Bool, true, false, _&&_, not, true≢false}
 use mathlib.Core.List.{List}
@@ -15,21 +14,10 @@ use Rattle.keys.specs.Keys.{goodPair, takesForm, lengthInFormat, extraLength}
 use Rattle.keys.specs.declared.Form.{Form}
 use Rattle.frame.specs.Layout.{formNumbered, headSize, frameOf, isNowhere}
 use Rattle.frame.specs.Build.{placeFor, planned, sizeOf, buildNo, notBuilt, builtOf, over, bufferAfter, Builds, Writable}
+use Rattle.frame.specs.Announced.{Placed, Announced}
 use Rattle.frame.specs.declared.Place.{Place}
 use Rattle.frame.specs.declared.Place.the-variants.{Format, Extra, Nowhere}
 use Rattle.frame.specs.declared.Plan.{Plan}
-
--- a length that KB1 announces this place for, and that fits it
-abbrev pub Placed : ℕ → Place → ℕ → Type 0
-Placed kb1 Format n = (lengthInFormat kb1 ≡ true) × (1 ≤ n) × (n ≤ 63)
-Placed kb1 Extra n = (extraLength kb1 ≡ true) × (1 ≤ n) × (n ≤ 255)
-Placed kb1 Nowhere n = ⊥
-
--- a frame of this form, with n bytes of data and its length in this place, is announced by good key bytes
-pub record Announced (kb1 kb2 : ℕ) (form : Form) (place : Place) (n : ℕ) : Type 0 where
-  pub good : goodPair kb1 kb2 ≡ true
-  pub takes : takesForm kb1 form ≡ true
-  pub placed : Placed kb1 place n
 
 pub length-some : (kb1 : ℕ) (place : Place) (n : ℕ) → Placed kb1 place n → 1 ≤ n
 length-some kb1 Format n p = p .1

@@ -7,37 +7,24 @@ use Prim.Native.Nat.{ℕ, _+_, _-_, _%_, _≤_}
 use native.Mathlib.Omega.{arith}
 use borrow.Author.Tests.{eq-eqb, eqb-true}
 use lib.Dec.{eqb}
-use lib.ListN.{length, getD, take, drop, length-append}
+use lib.ListN.{length, getD, take, length-append}
 use lib.Seq.{take-at, getD-at}
 use Rattle.base.specs.Choice.{if_then_else_}
 use Rattle.base.specs.Numbers.{taken}
 use Rattle.keys.specs.Keys.{takesForm}
 use Rattle.keys.specs.declared.Form.{Form}
 use Rattle.keys.specs.declared.Form.the-variants.{Plain, Physical, Functional, Foreign}
-use Rattle.frame.specs.Layout.{formNumbered, numberOf, headSize, total, checksumOf, bodyOf, frameOf, carried}
+use Rattle.frame.specs.Layout.{formNumbered, numberOf, headSize, total, checksumOf, bodyOf, frameOf, SumsUp, carried}
 use Rattle.frame.specs.Build.{placeFor, planned, sizeOf, buildNo, notBuilt, builtOf, over, bufferAfter, Builds}
 use Rattle.frame.specs.Read.{laidOf, judged, readOf, dataOf}
+use Rattle.frame.specs.Announced.{Announced}
+use Rattle.frame.specs.ReadsBack.{ReadsBack, BuiltReadsBack}
 use Rattle.frame.specs.declared.Place.{Place}
 use Rattle.frame.specs.declared.Plan.{Plan}
 use Rattle.frame.specs.declared.Built.{Built}
 use Rattle.frame.proofs.Sizes.{head-le, body-length, frame-length}
-use Rattle.frame.proofs.Announced.{Announced, length-byte, none-refuses}
+use Rattle.frame.proofs.Announced.{length-byte, none-refuses}
 use Rattle.frame.proofs.Starts.{Starts, frame-starts, starts-laid}
-
--- What it means that `frame` reads back as this form, these addresses and this data
-pub record ReadsBack (kb1 kb2 : ℕ) (form : Form) (t s : ℕ) (d frame : List ℕ) : Type 0 where
-  -- where the data starts
-  pub start : ℕ
-  -- of the frame with anything behind it, its front gives the form, the length, and so the end ..
-  pub laid : (rest : List ℕ) → laidOf kb1 (frame ++ rest) ≡ record { no = taken; form = form; start = start; len = length d }
-  pub ends : (rest : List ℕ) → take (start + length d + 1) (frame ++ rest) ≡ frame
-  -- .. and the addresses that it carries and the data stand where they do in the frame
-  pub target : (rest : List ℕ) → carried form (getD (frame ++ rest) 1 0) ≡ carried form t
-  pub source : (rest : List ℕ) → carried form (getD (frame ++ rest) 2 0) ≡ carried form s
-  pub bytes : (rest : List ℕ) → take (length d) (drop start (frame ++ rest)) ≡ d
-  -- exactly the frame is read
-  pub reading : readOf kb1 kb2 frame ≡ record { no = taken; form = numberOf form; target = carried form t; source = carried form s; start = start; len = length d }
-  pub contents : dataOf kb1 kb2 frame ≡ d
 
 module _ (kb1 kb2 : ℕ) (form : Form) (place : Place) (t s : ℕ) (d : List ℕ) (r : Announced kb1 kb2 form place (length d)) where
   frame-laid : (rest : List ℕ) → laidOf kb1 (frameOf form place t s d ++ rest) ≡ record { no = taken; form = form; start = headSize form place; len = length d }
@@ -92,9 +79,6 @@ module _ (kb1 kb2 : ℕ) (form : Form) (place : Place) (t s : ℕ) (d : List ℕ
   frame-small = omega (arith, frame-length form place t s d, head-le form place, length-byte kb1 place (length d) (r .placed))
 
 -- THE CHECKSUM IS THE SUM OF ALL BYTES BEFORE IT, MODULO 256
-abbrev pub SumsUp : List ℕ → Type 0
-SumsUp f = getD f (length f - 1) 0 ≡ total (take (length f - 1) f) % 256
-
 pub frame-sums-up : (form : Form) (place : Place) (t s : ℕ) (d : List ℕ) → SumsUp (frameOf form place t s d)
 unfolding frameOf checksumOf
 frame-sums-up form place t s d =
@@ -124,16 +108,6 @@ built-no p n room = by-no (eqb (buildNo p n room) taken) refl
     by-no : (b : Bool) → eqb (buildNo p n room) taken ≡ b → (if b then record { no = taken; len = sizeOf p n } else notBuilt (buildNo p n room)) .no ≡ buildNo p n room
     by-no true e = sym (eqb-true (buildNo p n room) taken e)
     by-no false e = refl
-
--- what `build` left, where it answers 0
-pub record BuiltReadsBack (p : Plan) (bytes out : List ℕ) (r : Built) (after : List ℕ) : Type 0 where
-  -- the frame stands at the front, and what stood behind it still does
-  pub frame : List ℕ
-  pub size : r .len ≡ length frame
-  pub memory : after ≡ frame ++ drop (length frame) out
-  -- and it reads back with its form, the addresses it carries, and its data
-  pub form-number : numberOf (formNumbered (p .form)) ≡ p .form
-  pub reads-back : ReadsBack (p .kb1) (p .kb2) (formNumbered (p .form)) (p .target) (p .source) bytes frame
 
 -- WHAT `build` BUILDS READS BACK
 pub built-reads-back : (p : Plan) (bytes out : List ℕ) (r : Built) (after : List ℕ) → Builds p bytes out r after → r .no ≡ taken → BuiltReadsBack p bytes out r after

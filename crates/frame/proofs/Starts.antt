@@ -14,10 +14,11 @@ use Rattle.keys.specs.declared.Form.{Form}
 use Rattle.keys.specs.declared.Form.the-variants.{Plain, Physical, Functional, Foreign}
 use Rattle.frame.specs.Layout.{topBits, formatForm, lowBits, addressesOf, extraOf, addressCount, headSize, headOf, checksumOf, bodyOf, frameOf, carried}
 use Rattle.frame.specs.Read.{placeRead, lengthRead, laidOf}
+use Rattle.frame.specs.Announced.{Placed}
 use Rattle.frame.specs.declared.Place.{Place}
 use Rattle.frame.specs.declared.Place.the-variants.{Format, Extra, Nowhere}
 use Rattle.frame.proofs.Sizes.{head-length}
-use Rattle.frame.proofs.Announced.{Placed, length-some, somewhere}
+use Rattle.frame.proofs.Announced.{length-some, somewhere}
 
 -- S starts with a frame of this form, place, addresses and data, as reading sees it
 pub record Starts (kb1 : ℕ) (S : List ℕ) (form : Form) (place : Place) (t s : ℕ) (d : List ℕ) : Type 0 where

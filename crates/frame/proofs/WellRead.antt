@@ -16,15 +16,16 @@ use Rattle.base.proofs.Tests.{by-test}
 use Rattle.keys.specs.Keys.{goodPair, takesForm, lengthInFormat, extraLength}
 use Rattle.keys.specs.declared.Form.{Form}
 use Rattle.keys.specs.declared.Form.the-variants.{Plain, Physical, Functional, Foreign}
-use Rattle.frame.specs.Layout.{formNumbered, numberOf, topBits, formatForm, lowBits, addressesOf, extraOf, addressCount, extraCount, headSize, headOf, checksumOf, bodyOf, frameOf, carried, isNowhere}
+use Rattle.frame.specs.Layout.{formNumbered, numberOf, topBits, formatForm, lowBits, addressesOf, extraOf, addressCount, extraCount, headSize, headOf, checksumOf, bodyOf, frameOf, SumsUp, carried, isNowhere}
 use Rattle.frame.specs.Read.{formatByte, placeRead, lengthRead, lengthOf, notLaid, laidOf, notRead, judged, readOf, dataOf}
+use Rattle.frame.specs.Announced.{Placed, Announced, IsFrame}
 use Rattle.frame.specs.declared.Place.{Place}
 use Rattle.frame.specs.declared.Place.the-variants.{Format, Extra, Nowhere}
 use Rattle.frame.specs.declared.Laid.{Laid}
 use Rattle.frame.specs.declared.Reading.{Reading}
-use Rattle.frame.proofs.Announced.{Placed, Announced, length-byte}
+use Rattle.frame.proofs.Announced.{length-byte}
 use Rattle.frame.proofs.Sizes.{head-le, frame-length}
-use Rattle.frame.proofs.RoundTrip.{frame-reads-back, SumsUp, frame-sums-up}
+use Rattle.frame.proofs.RoundTrip.{frame-reads-back, frame-sums-up}
 
 -- where the data starts, and the layout that is read
 abbrev startOf : ℕ → List ℕ → ℕ
@@ -244,15 +245,6 @@ read-sums-up kb1 kb2 s byte e =
     subst SumsUp (sym (w .whole)) (frame-sums-up form (w .place) (readOf kb1 kb2 s .target) (readOf kb1 kb2 s .source) (dataOf kb1 kb2 s))
 
 -- READING WELL AND BEING A FRAME ARE ONE: a slice of bytes reads well exactly if it is a frame that good key bytes announce
-pub record IsFrame (kb1 kb2 : ℕ) (s : List ℕ) : Type 0 where
-  pub form : Form
-  pub place : Place
-  pub target : ℕ
-  pub source : ℕ
-  pub bytes : List ℕ
-  pub announced : Announced kb1 kb2 form place (length bytes)
-  pub whole : s ≡ frameOf form place target source bytes
-
 pub reads-exactly : (kb1 kb2 : ℕ) (s : List ℕ) → ((i : ℕ) → getD s i 0 < 256) → (readOf kb1 kb2 s .no ≡ taken) ↔ IsFrame kb1 kb2 s
 reads-exactly kb1 kb2 s byte = (
   λ e.

@@ -1,10 +1,11 @@
 -- A frame's layout, which building and reading share (document 01, "Frames"; ISO 14230-2, clauses 4.1 to 4.4, figures 4 and 5).
 -- A departure from ISO 14230-2:1999: its clause 4.2 says once that a header has at most 3 bytes; figure 4 and the French text say 4, and 4 decides.
 -- Assumes nothing.
-use Prim.Native.Nat.{ℕ, _+_, _/_, _%_}
+use mathlib.Core.Path.{_≡_}
+use Prim.Native.Nat.{ℕ, _+_, _-_, _/_, _%_}
 use mathlib.Core.Bool.{Bool, true, false}
 use mathlib.Core.List.{List, [], _∷_, _++_}
-use lib.ListN.{length}
+use lib.ListN.{length, getD, take}
 use lib.Dec.{eqb}
 use Rattle.base.specs.Choice.{if_then_else_}
 use Rattle.keys.specs.declared.Form.{Form}
@@ -89,6 +90,10 @@ bodyOf form place target source bytes = headOf form place target source (length 
 unfoldable pub frameOf : Form → Place → ℕ → ℕ → List ℕ → List ℕ
 frameOf form place target source bytes =
     bodyOf form place target source bytes ++ (checksumOf (bodyOf form place target source bytes) ∷ [])
+
+-- the last byte is the checksum: "the sum of all bytes before it, modulo 256"
+abbrev pub SumsUp : List ℕ → Type 0
+SumsUp f = getD f (length f - 1) 0 ≡ total (take (length f - 1) f) % 256
 
 -- an address as a frame carries it: "Form 0 carries no address"
 unfoldable pub carried : Form → ℕ → ℕ

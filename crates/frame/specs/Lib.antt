@@ -1,3 +1,5 @@
 pub mod Layout
 pub mod Build
 pub mod Read
+pub mod Announced
+pub mod ReadsBack

@@ -1,24 +1,12 @@
 -- The good pairs are the eighteen of document 01 and no other: one test that antt computes over all 256 values of KB1, at KB2 8F; every other KB2
 -- fails the first condition. Assumes nothing.
 use mathlib.Core.Path.{_≡_, refl}
-use mathlib.Core.Bool.{Bool, true, false, _&&_, _||_, Bool·beq, false≢true}
-use mathlib.Core.List.{List, [], _∷_}
+use mathlib.Core.Bool.{Bool, true, false, _&&_, Bool·beq, false≢true}
 use Prim.Native.Nat.{ℕ, _<_}
 use borrow.Author.Tests.{eqb-true}
 use lib.Dec.{eqb}
 use Rattle.base.proofs.Tests.{at-each}
-use Rattle.keys.specs.Keys.{goodPair, lengthInFormat, extraLength, noAddresses, withAddresses}
-
--- "These are the 18 values D5 D6 57 D9 DA 5B 5D 5E DF E5 E6 67 E9 EA 6B 6D 6E EF."
-unfoldable pub eighteen : List ℕ
-eighteen =
-    0xD5 ∷ 0xD6 ∷ 0x57 ∷ 0xD9 ∷ 0xDA ∷ 0x5B ∷ 0x5D ∷ 0x5E ∷ 0xDF
-    ∷ 0xE5 ∷ 0xE6 ∷ 0x67 ∷ 0xE9 ∷ 0xEA ∷ 0x6B ∷ 0x6D ∷ 0x6E ∷ 0xEF ∷ []
-
--- whether a number is one of a list
-unfoldable pub isIn : ℕ → List ℕ → Bool
-isIn x [] = false
-isIn x (y ∷ ys) = eqb x y || isIn x ys
+use Rattle.keys.specs.Keys.{goodPair, eighteen, isIn, lengthInFormat, extraLength, noAddresses, withAddresses}
 
 agree : ℕ → Bool
 agree kb1 = Bool·beq (goodPair kb1 0x8F) (isIn kb1 eighteen)

@@ -2,6 +2,7 @@
 -- Assumes nothing.
 use Prim.Native.Nat.{ℕ, _+_, _/_, _%_}
 use mathlib.Core.Bool.{Bool, false, _&&_, _||_, not}
+use mathlib.Core.List.{List, [], _∷_}
 use lib.Dec.{eqb}
 use Rattle.keys.specs.declared.Form.{Form}
 use Rattle.keys.specs.declared.Form.the-variants.{Plain, Physical, Functional, Foreign}
@@ -63,6 +64,17 @@ goodPair kb1 kb2 =
     && eqb (bit4 kb1 + bit5 kb1) 1
     && (lengthInFormat kb1 || extraLength kb1)
     && (noAddresses kb1 || withAddresses kb1)
+
+-- "These are the 18 values D5 D6 57 D9 DA 5B 5D 5E DF E5 E6 67 E9 EA 6B 6D 6E EF."
+unfoldable pub eighteen : List ℕ
+eighteen =
+    0xD5 ∷ 0xD6 ∷ 0x57 ∷ 0xD9 ∷ 0xDA ∷ 0x5B ∷ 0x5D ∷ 0x5E ∷ 0xDF
+    ∷ 0xE5 ∷ 0xE6 ∷ 0x67 ∷ 0xE9 ∷ 0xEA ∷ 0x6B ∷ 0x6D ∷ 0x6E ∷ 0xEF ∷ []
+
+-- whether a number is one of a list
+unfoldable pub isIn : ℕ → List ℕ → Bool
+isIn x [] = false
+isIn x (y ∷ ys) = eqb x y || isIn x ys
 
 -- The forms that KB1 takes: one that carries no addresses by bit 2, one that does by bit 3, functional only without extended timing
 -- ("functional under extended timing (KB1 bit 4, whatever windows are in force)" is refused). A foreign form, mode 01 or above 2, is never taken.

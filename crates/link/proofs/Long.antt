@@ -15,9 +15,9 @@ use Rattle.base.proofs.Tests.{and-split, by-test}
 use Rattle.units.specs.Units.{gapOf}
 use Rattle.units.specs.declared.Micros.{Micros}
 use Rattle.timing.specs.Timing.{isUnlimited, isPassed, decodedOf}
+use Rattle.timing.specs.Coded.{Bytes}
 use Rattle.timing.specs.declared.Limit.{Limit}
 use Rattle.timing.specs.declared.Windows.{Windows}
-use Rattle.timing.proofs.RoundTrip.{Bytes}
 use Rattle.timing.proofs.Least.{LongEnough, codes-long, set-long}
 use Rattle.events.specs.Events.{isTester}
 use Rattle.events.specs.declared.Kind.{Kind}

@@ -1,4 +1,5 @@
 pub mod Handling
 pub mod Stepping
+pub mod Telling
 pub mod Quick
 pub mod Running

@@ -28,6 +28,7 @@ use Rattle.lines.proofs.Forms.{Form, no-other-form, unread-refused}
 use Rattle.text.specs.Text.{headText, refusedText, endText}
 use Rattle.listing.specs.Listing.{freshLister, answerText, stepped, saidOf, Feed, lineEnded, withReading, feedByte, feed, finished, heldOf}
 use Rattle.listing.specs.Listing.{endingOf, listingOf}
+use Rattle.listing.specs.InputLines.{onFirst, linesOf}
 use Rattle.listing.specs.declared.Lister.{Lister}
 use Rattle.listing.proofs.Cuts.{feed-said, feed-append}
 
@@ -80,18 +81,7 @@ pub unread-line : (x : Lister) (l : List ℕ) → (Form l → ⊥) → (saidOf x
 unread-line x l f = rw (no-other-form l f) (unread-said x, unread-still x)
 
 -- ---- THE WHOLE INPUT
--- a byte in front of the first line; where there is none, it is a line of its own
-abbrev pub onFirst : ℕ → List (List ℕ) → List (List ℕ)
-onFirst b [] = (b ∷ []) ∷ []
-onFirst b (l ∷ ls) = (b ∷ l) ∷ ls
-
--- The lines of an input: what stands in front of each line feed, and what stands behind the last one, if that is not empty. An empty input has none;
--- a line feed alone has one, which is empty.
-unfoldable pub linesOf : List ℕ → List (List ℕ)
-linesOf [] = []
-linesOf (b ∷ bs) = if eqb b lineFeed then [] ∷ linesOf bs else onFirst b (linesOf bs)
-
--- in other words: a line that a line feed ends is the first, and the lines of what stands behind follow ..
+-- The lines of an input in other words: a line that a line feed ends is the first, and the lines of what stands behind follow ..
 pub lines-line : (l bs : List ℕ) → Plain l → linesOf (l ++ (lineFeed ∷ bs)) ≡ l ∷ linesOf bs
 unfolding linesOf
 lines-line [] bs p = refl

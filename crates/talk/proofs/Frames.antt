@@ -26,22 +26,10 @@ use Rattle.events.specs.Events.{isTester, isUnit, isNobody, sameSide}
 use Rattle.events.specs.declared.Side.{Side}
 use Rattle.events.specs.declared.Side.the-variants.{Tester, Unit, Nobody}
 use Rattle.talk.specs.Talk.{isModeOne, hasExtra, placeAnnounced, headReason, afterAddresses, partAfterFormat, begun, laterReason, isSum, withSeven, afterData, withData, grown}
+use Rattle.talk.specs.Messages.{endsIn, isMessage}
 use Rattle.talk.specs.declared.Part.{Part}
 use Rattle.talk.specs.declared.Part.the-variants.{Target}
 use Rattle.talk.specs.declared.Message.{Message}
-
--- ---- what is said
--- the bytes behind a message's first one end it in a frame with the last of them, by the rules for later bytes
-abbrev pub endsIn : Side → Message → List ℕ → Bool
-endsIn side m [] = false
-endsIn side m (v ∷ vs) =
-    if not (eqb (laterReason m side v) noReason) then false else
-    if isSum (m .part) then eqb (length vs) 0 else endsIn side (grown m v) vs
-
--- bytes of one side are a message that ends in a frame with its last byte
-abbrev pub isMessage : ℕ → Side → List ℕ → Bool
-isMessage kb1 side [] = false
-isMessage kb1 side (f ∷ vs) = if eqb (headReason kb1 f) noReason then endsIn side (begun side f) vs else false
 
 -- ---- what both come to, behind the format byte and the addresses
 -- so many data bytes and, behind the sum k of all before them, their checksum

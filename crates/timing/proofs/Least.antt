@@ -14,10 +14,11 @@ use Rattle.keys.specs.Keys.{isExtended}
 use Rattle.units.specs.Units.{isEarlier}
 use Rattle.units.specs.declared.Micros.{Micros}
 use Rattle.timing.specs.Timing.{isUnlimited, isBelow, setOf, p4max, isAllowed, p2Half, p2MaxOf, p3MaxOf, windowsBy, decodedOf}
+use Rattle.timing.specs.Coded.{Bytes}
 use Rattle.timing.specs.declared.Limit.{Limit}
 use Rattle.timing.specs.declared.Windows.{Windows}
 use Rattle.timing.specs.declared.Codes.{Codes}
-use Rattle.timing.proofs.RoundTrip.{Bytes, decoded-allowed, decoded-is}
+use Rattle.timing.proofs.RoundTrip.{decoded-allowed, decoded-is}
 
 pub record LongEnough (w : Windows) : Type 0 where
   pub p2max-long : 25_000 ≤ w .p2max .0 .0

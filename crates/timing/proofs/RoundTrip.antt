@@ -15,19 +15,12 @@ use Rattle.units.specs.declared.Step25.{Step25}
 use Rattle.units.proofs.Steps.{steps-back}
 use Rattle.timing.specs.Timing.{isUnlimited, isAllowed, minOf, p2Half, p2MaxOf, p3MaxOf, windowsBy, notDecoded, decodedOf}
 use Rattle.timing.specs.Timing.{minCode, p2StepsCode, p2Code, p3Code, codesBy, sameWindows, notEncoded, encodedOf}
+use Rattle.timing.specs.Coded.{Bytes, HasCodes}
 use Rattle.timing.specs.declared.Limit.{Limit}
 use Rattle.timing.specs.declared.Windows.{Windows}
 use Rattle.timing.specs.declared.Codes.{Codes}
 use Rattle.timing.specs.declared.Decoded.{Decoded}
 use Rattle.timing.specs.declared.Encoded.{Encoded}
-
--- five numbers that are bytes, as every `Codes` of a program is
-pub record Bytes (c : Codes) : Type 0 where
-  pub p2min-byte : c .p2min ≤ 255
-  pub p2max-byte : c .p2max ≤ 255
-  pub p3min-byte : c .p3min ≤ 255
-  pub p3max-byte : c .p3max ≤ 255
-  pub p4min-byte : c .p4min ≤ 255
 
 -- what is taken was allowed
 pub decoded-allowed : (c : Codes) → decodedOf c .no ≡ taken → isAllowed (windowsBy c) ≡ true
@@ -148,12 +141,6 @@ codes-bytes w = record {
   p3max-byte = p3-small (w .p3max);
   p4min-byte = byte-small (halfOf (w .p4min) .0);
 }
-
--- allowed codes that stand for w
-pub record HasCodes (w : Windows) : Type 0 where
-  pub codes : Codes
-  pub bytes : Bytes codes
-  pub gives : decodedOf codes ≡ record { no = taken; windows = w }
 
 -- WINDOWS GET CODES exactly if allowed codes stand for them ..
 pub codes-exactly : (w : Windows) → (encodedOf w .no ≡ taken) ↔ HasCodes w

@@ -3,7 +3,8 @@
 use mathlib.Core.Path.{ap}
 use borrow.Author.Needs.{needs}
 use Rattle.units.specs.Units.{halfMs}
-use Rattle.timing.proofs.P2Table.{table, rule}
+use Rattle.timing.specs.P2Table.{table}
+use Rattle.timing.proofs.P2Table.{rule}
 use Rattle.timing.proofs.p2max.p2_half.Statement.{statement}
 use Rattle.timing.proofs.p2max.p2_half.Tie as tie
 

@@ -1,0 +1,90 @@
+-- What stands beside the demands: theorems about our own link, inside, and about our listing program. Proved in proofs/Beside.antt. Assumes nothing.
+use Prim.Native.Nat.{ℕ, _<_}
+use mathlib.Core.Bool.{true, false}
+use mathlib.Core.List.{List, _++_}
+use mathlib.Core.Logic.{_↔_}
+use mathlib.Core.Path.{_≡_}
+use lib.Dec.{eqb}
+use lib.ListN.{getD}
+use Rattle.keys.specs.Keys.{goodPair}
+use Rattle.frame.specs.Read.{readOf}
+use Rattle.events.specs.declared.Side.{Side}
+use Rattle.talk.specs.Messages.{isMessage}
+use Rattle.timing.specs.Timing.{setOf}
+use Rattle.talk.specs.declared.Reply.the-variants.{Never}
+use Rattle.talk.specs.declared.Request.the-variants.{Ordinary}
+use Rattle.phases.specs.Phases.{isStarting, isOpen, isConnected}
+use Rattle.phases.specs.declared.State.the-variants.{Quiet}
+use Rattle.reports.specs.Reporting.{listed}
+use Rattle.events.specs.declared.Event.{Event}
+use Rattle.link.specs.declared.Link.{Link}
+use Rattle.link.specs.declared.Answer.{Answer}
+use Rattle.reports.specs.declared.Counts.{Counts}
+use Rattle.base.specs.Numbers.{taken}
+use Rattle.link.specs.Stepping.{stepOf}
+use Rattle.link.specs.Telling.{handledTells}
+use Rattle.text.specs.Text.{headText, endText}
+use Rattle.listing.specs.Listing.{listingOf}
+use Rattle.demands.specs.Logs.{Log, _▷_, InBytes, heardIn, numberAfter, takenOf}
+use Rattle.demands.specs.Refusals.{Numbered}
+use Rattle.demands.specs.Histories.{after, reportsOf}
+use Rattle.demands.specs.Ours.{ours, ourAnswer}
+use Rattle.demands.specs.Accounts.{countsOf, heldIn}
+use Rattle.demands.specs.Inputs.{historyOf, saidFor}
+use Rattle.demands.specs.Connecting.{Connects, Connected}
+use Rattle.demands.specs.Sessions.{Talk, inForce, Session, SomeSession}
+use Rattle.demands.specs.Endings.{Starting}
+
+-- what a session says of our link
+pub record IsIn (t : Talk) (l : Link) : Type 0 where
+  pub connected : isConnected (l .phase .state) ≡ true
+  pub good : goodPair (t .kb1) (t .kb2) ≡ true
+  pub kb1 : l .phase .start .kb1 ≡ t .kb1
+  pub kb2 : l .phase .start .kb2 ≡ t .kb2
+  pub windows : l .phase .windows ≡ inForce t
+  pub reply : l .phase .reply ≡ t .reply
+
+-- what our link is behind the event that completes an initialization: connected, with nothing open, by its key bytes. "Timing starts at the set KB1 names",
+-- and nothing is expected yet.
+pub record ConnectedLink (log : Log) (e : Event) (c : Connects log e) (a : Answer) : Type 0 where
+  pub answer : Connected log e c (listed (a .reports))
+  pub state : a .link .phase .state ≡ Quiet
+  pub kb1 : a .link .phase .start .kb1 ≡ c .kb1
+  pub kb2 : a .link .phase .start .kb2 ≡ c .kb2
+  pub good : goodPair (c .kb1) (c .kb2) ≡ true
+  pub windows : a .link .phase .windows ≡ setOf (c .kb1)
+  pub reply : a .link .phase .reply ≡ Never
+  pub request : a .link .phase .request ≡ Ordinary
+
+-- OF OUR OWN LINK AND PROGRAM. These theorems look inside, or quote our own rules: no other link has to meet them, and no demand needs them.
+pub record Beside : Type 0 where
+  -- ---- beside demand 1
+  -- The number of an event, for any link, also for such as no history gives: by its own clock and the number of events that it has taken.
+  pub numbered : (l : Link) (c : Counts) (e : Event) → Numbered (l .clock) (l .taken) c e (stepOf l c e .answer .no)
+  -- ---- beside demand 2
+  -- The link was not connected, and is connected after the event, exactly if the event is taken and completes an initialization.
+  pub becomes-connected-exactly : (es : Log) (e : Event)
+      → ((isConnected (after ours es .link .phase .state) ≡ false) × (isConnected (after ours (es ▷ e) .link .phase .state) ≡ true))
+      ↔ ((numberAfter (takenOf es) e ≡ taken) × Connects (takenOf es) e)
+  -- It then has the initialization's key bytes, and the windows of the set that KB1 names.
+  pub connects-link : (es : Log) (e : Event) → numberAfter (takenOf es) e ≡ taken → (c : Connects (takenOf es) e)
+      → ConnectedLink (takenOf es) e c (ourAnswer es e)
+  -- Our rules on messages, byte by byte, end one in a frame exactly if `read` takes its bytes under the same key bytes.
+  pub messages : (kb1 kb2 : ℕ) (side : Side) (s : List ℕ) → goodPair kb1 kb2 ≡ true → ((i : ℕ) → getD s i 0 < 256)
+      → isMessage kb1 side s ≡ eqb (readOf kb1 kb2 s .no) taken
+  -- Our link is connected exactly while a session of the history lasts, ..
+  pub session-exactly : (es : Log) → InBytes es → (isConnected (after ours es .link .phase .state) ≡ true) ↔ SomeSession ours es
+  -- .. and then its key bytes, its windows and the reply that may come are the session's. ..
+  pub session-link : (es : Log) (t : Talk) → InBytes es → Session ours es t → IsIn t (after ours es .link)
+  -- .. It is in an initialization exactly while one of the history lasts.
+  pub starting-exactly : (es : Log) → (isStarting (after ours es .link .phase .state) ≡ true) ↔ Starting ours es
+  -- ---- beside demand 3
+  -- No byte is held while neither a message, nor damage, nor an initialization is open.
+  pub idle : (es : Log) → isOpen (after ours es .link .phase .state) ≡ false → isStarting (after ours es .link .phase .state) ≡ false → heldIn ours es ≡ 0
+  -- NO REPORT IS LOST: those in the three places of an answer to an event that was taken are the reports of all its moves, in order.
+  pub none-lost : (es : Log) (e : Event) → ourAnswer es e .no ≡ 0 → listed (ourAnswer es e .reports) ≡ handledTells (after ours es .link) e
+  -- UP TO THE TEXT, for every input, whatever bytes it is of: its listing is the header, what is written for the events of its lines, in order, and an end
+  -- line that shows the seven counts worked out from the history of these events, and how many bytes are held behind it.
+  pub listing-shows : (input : List ℕ)
+      → let es = historyOf input in
+      listingOf input ≡ headText ++ (saidFor es ++ endText (countsOf (heardIn es) (reportsOf ours es)) (heldIn ours es))
