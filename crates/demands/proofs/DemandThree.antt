@@ -2,6 +2,7 @@
 -- Assumes nothing.
 use Prim.Native.Nat.{_-_}
 use Rattle.demands.proofs.Accounting as accounting
+use Rattle.demands.proofs.Lending as lending
 use Rattle.demands.specs.DemandThree.{DemandThree}
 use Rattle.demands.specs.Ours.{ours}
 use Rattle.demands.specs.OurLink.{ourLink}
@@ -10,6 +11,7 @@ use Rattle.demands.specs.OurLink.{ourLink}
 proved : DemandThree ours
 proved = record {
   accounted = accounting.accounted;
+  lent-counts = lending.lent-counts;
   all-counted = accounting.all-counted;
 }
 

@@ -10,6 +10,7 @@ use Rattle.demands.specs.DemandTwo.{DemandTwo, Foundation}
 use Rattle.demands.specs.Ours.{ours}
 use Rattle.demands.specs.OurLink.{ourLink}
 use Rattle.demands.proofs.Order as order
+use Rattle.demands.proofs.Lending as lending
 use Rattle.demands.proofs.FailedNames as failedNames
 use Rattle.demands.proofs.NoneHeld as noneHeld
 use Rattle.demands.proofs.Leaving as leaving
@@ -67,6 +68,7 @@ proved = record {
   none-held = noneHeld.none-held;
   each-formed = each.each-formed;
   in-order = order.in-order;
+  lent-alike = lending.lent-alike;
   failed-names = failedNames.failed-names;
 }
 

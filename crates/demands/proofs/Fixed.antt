@@ -92,7 +92,7 @@ at-most a b = by (leb a b) refl
     by true c = inl (leb-true a b c)
     by false c = inr (λ h. let k = leb-false a b c in omega arith)
 
-equal : (a b : ℕ) → Decided (a ≡ b)
+pub equal : (a b : ℕ) → Decided (a ≡ b)
 equal a b = by (eqb a b) refl
   where
     by : (c : Bool) → eqb a b ≡ c → Decided (a ≡ b)

@@ -113,6 +113,22 @@ takenHost h e = record {
   counts = countedEvent (h .counts) (isByte (e .kind)) (handled (h .link) e .reports);
 }
 
+-- its reports name bytes from the first one on that none named before, and these are few
+pub record Tiles (l : Link) (e : Event) : Type 0 where
+  pub tiled : Tiled (l .named) (listed (handled l e .reports)) (handled l e .named)
+  pub few : handled l e .named ≤ most
+
+pub handled-tiles : (h : Host Link) (log : Log) (xs : List Report) (e : Event) → Kept h log xs → numberAfter log e ≡ taken → Tiles (h .link) e
+handled-tiles h log xs e k q =
+    let t = timely log e q in
+    let l = h .link in
+    let b = isByte (e .kind) in
+    let a = handles l e (omega (arith, t .room, k .heard, k .few)) (k .holds) in
+    let heards = a .heard ∙ heard-more b (e .value) (l .heard) (heardOf log) (k .heard) in
+    let fews = few-more b (e .value) (countOf log) (heardOf log) (k .few) in
+    let inside = holds-order (handled l e .phase .state) (handled l e .named) (handled l e .heard) (a .holds) in
+    record { tiled = rw (three-enough l e) (a .tiled); few = omega (arith, inside, heards, fews, t .room) }
+
 kept-taken : (h : Host Link) (log : Log) (xs : List Report) (e : Event) → Kept h log xs → numberAfter log e ≡ taken
     → Kept (takenHost h e) (log ▷ e) (xs ++ listed (handled (h .link) e .reports))
 unfolding linkAfter markAfter clockOf markOf countOf heardOf
@@ -124,10 +140,9 @@ kept-taken h log xs e k q =
     let l = h .link in
     let b = isByte (e .kind) in
     let a = handles l e (omega (arith, t .room)) (k .holds) in
-    let tiles : Tiled 0 (xs ++ listed (handled l e .reports)) (handled l e .named) = rw (three-enough l e) (tiled-append (k .tiled) (a .tiled)) in
+    let tiles = handled-tiles h log xs e k q in
     let heards = a .heard ∙ heard-more b (e .value) (l .heard) (heardOf log) (k .heard) in
     let fews = few-more b (e .value) (countOf log) (heardOf log) (k .few) in
-    let inside = holds-order (handled l e .phase .state) (handled l e .named) (handled l e .heard) (a .holds) in
     record {
       clock = refl;
       mark = mark-more (marks (e .kind)) (e .end) (l .mark) (markOf log) (k .mark);
@@ -136,11 +151,11 @@ kept-taken h log xs e k q =
       heard = heards;
       few = fews;
       bound = omega (arith, t .room);
-      tiled = tiles;
+      tiled = tiled-append (k .tiled) (tiles .tiled);
       holds = a .holds;
       counts =
-          counted-event (h .counts) (heardOf log) xs b (e .value) (handled l e .reports) (handled l e .named) (k .counts) tiles
-          (omega (arith, inside, heards, fews, t .room)) (omega (arith, t .room));
+          counted-event (h .counts) (heardOf log) xs b (e .value) (handled l e .reports) (l .named) (handled l e .named) (k .counts) (kept-small h log xs k)
+          (tiles .tiled) (tiles .few);
     }
 
 -- ---- from a fresh link with zero counts, event by event

@@ -212,6 +212,25 @@ small-not-above c s (inr (inr (inr (inr (inl h))))) = absurd (omega (arith, s .o
 small-not-above c s (inr (inr (inr (inr (inr (inl h)))))) = absurd (omega (arith, s .frames))
 small-not-above c s (inr (inr (inr (inr (inr (inr h)))))) = absurd (omega (arith, s .damages))
 
+pub not-above-small : (c : Counts) → Not (Above c) → Small c
+not-above-small c n =
+    let a : 4_000_000_000 < c .heard → ⊥ = λ p. n (inl p) in
+    let b : 4_000_000_000 < c .framed → ⊥ = λ p. n (inr (inl p)) in
+    let d : 4_000_000_000 < c .damaged → ⊥ = λ p. n (inr (inr (inl p))) in
+    let e : 4_000_000_000 < c .started → ⊥ = λ p. n (inr (inr (inr (inl p)))) in
+    let f : 4_000_000_000 < c .outside → ⊥ = λ p. n (inr (inr (inr (inr (inl p))))) in
+    let g : 4_000_000_000 < c .frames → ⊥ = λ p. n (inr (inr (inr (inr (inr (inl p)))))) in
+    let h : 4_000_000_000 < c .damages → ⊥ = λ p. n (inr (inr (inr (inr (inr (inr p)))))) in
+    record {
+      heard = omega arith;
+      framed = omega arith;
+      damaged = omega arith;
+      started = omega arith;
+      outside = omega arith;
+      frames = omega arith;
+      damages = omega arith;
+    }
+
 decides-most : (events : ℕ) (c : Counts) → Small c → Decides (leb most events) (TooMany events c)
 decides-most events c s = (λ t. inl (leb-true most events t), ⊎-elim (le-leb most events) (λ a. absurd (small-not-above c s a)))
 

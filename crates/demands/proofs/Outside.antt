@@ -1,12 +1,13 @@
 -- DEMAND 3 PASSES the link that reports each byte as outside ("though demand 3 would pass it"): behind every history each byte heard is named at once, so that
 -- nothing is held, and each count is that of the reports. What holds of our link behind any events holds of this one too.
 -- Assumes nothing.
-use Prim.Native.Nat.{ℕ, _+_, _<_}
+use Prim.Native.Nat.{ℕ, _+_, _≤_, _<_}
 use mathlib.Core.Bool.{Bool, true, false}
-use mathlib.Core.List.{List, [], _++_, append-nil}
+use mathlib.Core.List.{List, [], _∷_, _++_, append-nil}
+use mathlib.Core.Logic.{inl, inr}
 use mathlib.Core.Path.{_≡_, refl, sym, ap, subst, _∙_}
 use native.Mathlib.Omega.{arith}
-use borrow.Author.Tests.{eqb-true}
+use borrow.Author.Tests.{eqb-true, eq-eqb}
 use lib.Dec.{eqb}
 use lib.ListN.{length}
 use Rattle.base.specs.Choice.{if_then_else_}
@@ -26,15 +27,16 @@ use Rattle.link.specs.declared.Link.{Link}
 use Rattle.link.specs.declared.Stepped.{Stepped}
 use Rattle.listing.specs.Listing.{heldOf}
 use Rattle.demands.specs.Logs.{Log, none, _▷_, clockOf, markOf, countOf, heardOf, heardIn, numberAfter, takenOf}
-use Rattle.demands.specs.Histories.{Host, kept, after, reportsOf}
-use Rattle.demands.specs.Accounts.{allNamed, lastOf, countsOf, heldIn, Accounted}
+use Rattle.demands.specs.Histories.{Host, kept, after, answerWith, reportsOf}
+use Rattle.demands.specs.Accounts.{allNamed, lastOf, countsOf, added, heldIn, Accounted}
 use Rattle.demands.specs.Wrong.{outsideOnly, heardWith, outsideLink, outsideStep, outside}
 use Rattle.demands.specs.Ours.{toldBy}
 use Rattle.demands.specs.DemandThree.{DemandThree}
 use Rattle.demands.proofs.Tiling.{Tiled, end, next, tiled-append, sum-is}
-use Rattle.demands.proofs.Counting.{tiled-sums, counted-event}
+use Rattle.demands.proofs.Numbering.{number-numbered, not-above-small}
+use Rattle.demands.proofs.Counting.{tiled-sums, counted-lent, counted-event}
 use Rattle.demands.proofs.Naming.{tiled-turns, tiled-named}
-use Rattle.demands.proofs.Invariant.{Kept, kept-of, number-is, timely, mark-order, mark-more, heard-more, few-more, refused-answer}
+use Rattle.demands.proofs.Invariant.{Kept, kept-small, kept-of, number-is, timely, mark-order, mark-more, heard-more, few-more, refused-answer}
 use Rattle.demands.proofs.Accounting.{all-heard, listed-three}
 
 -- what a host keeps behind an event that it takes
@@ -46,18 +48,21 @@ record All (h : Host Link) (log : Log) (xs : List Report) : Type 0 where
   pub kept : Kept h log xs
   pub named : h .link .named ≡ h .link .heard
 
-tiles : (b : Bool) (l : Link) (e : Event) (xs : List Report) → Tiled 0 xs (l .named) → l .named ≡ l .heard → l .heard < greatest
-    → Tiled 0 (xs ++ listed (outsideOnly b l e)) (heardWith b l)
+tiles : (b : Bool) (l : Link) (e : Event) → l .named ≡ l .heard → l .heard < greatest → Tiled (l .named) (listed (outsideOnly b l e)) (heardWith b l)
 unfolding listed appended
-tiles true l e xs t n f =
+tiles true l e n f =
     let x : Report = record { first = l .heard; bytes = 1; time = e .end; number = outsideReport; reason = noReason } in
     let one = next {x = x} (sym n) (record { parts = omega arith; frame = omega arith; damage = omega arith }) end in
-    subst (λ (k : ℕ). Tiled 0 (xs ++ listed (outsideOnly true l e)) k) (omega (arith, n, sum-is (l .heard) 1 (omega arith))) (tiled-append t one)
-tiles false l e xs t n f = rw (append-nil xs) (subst (λ (k : ℕ). Tiled 0 xs k) n t)
+    subst (λ (k : ℕ). Tiled (l .named) (x ∷ []) k) (omega (arith, n, sum-is (l .heard) 1 (omega arith))) one
+tiles false l e n f = subst (λ (k : ℕ). Tiled (l .named) [] k) n end
 
 hears-is : (b : Bool) (l : Link) → l .heard < greatest → heardWith b l ≡ (if b then l .heard + 1 else l .heard)
 hears-is true l f = sum-is (l .heard) 1 (omega arith)
 hears-is false l f = refl
+
+hears-most : (b : Bool) (l : Link) → l .heard < 4_000_000_000 → heardWith b l ≤ 4_000_000_000
+hears-most true l f = omega (arith, sum-is (l .heard) 1 (omega arith))
+hears-most false l f = omega arith
 
 all-taken : (h : Host Link) (log : Log) (xs : List Report) (e : Event) → All h log xs → numberAfter log e ≡ taken
     → All (nextHost h e) (log ▷ e) (xs ++ listed (outsideOnly (isByte (e .kind)) (h .link) e))
@@ -68,7 +73,7 @@ all-taken h log xs e a q =
     let l = h .link in
     let b = isByte (e .kind) in
     let room : l .heard < greatest = omega (arith, k .heard, k .few, t .room) in
-    let ts = tiles b l e xs (k .tiled) (a .named) room in
+    let ts = tiles b l e (a .named) room in
     let heards = hears-is b l room ∙ heard-more b (e .value) (l .heard) (heardOf log) (k .heard) in
     let fews = few-more b (e .value) (countOf log) (heardOf log) (k .few) in
     record {
@@ -80,11 +85,11 @@ all-taken h log xs e a q =
         heard = heards;
         few = fews;
         bound = omega (arith, t .room);
-        tiled = ts;
+        tiled = tiled-append (k .tiled) ts;
         holds = refl;
         counts =
-            counted-event (h .counts) (heardOf log) xs b (e .value) (outsideOnly b l e) (heardWith b l) (k .counts) ts
-            (omega (arith, heards, fews, t .room)) (omega (arith, k .few, t .room));
+            counted-event (h .counts) (heardOf log) xs b (e .value) (outsideOnly b l e) (l .named) (heardWith b l) (k .counts) (kept-small h log xs k) ts
+            (omega (arith, heards, fews, t .room));
       };
       named = refl;
     }
@@ -163,6 +168,34 @@ outside-all-counted es =
     let s = tiled-sums (a .kept .tiled) in
     rw (a .kept .counts, held-nothing es) (omega (arith, s .all, a .kept .heard, a .named))
 
+-- THE COUNTS ARE BROUGHT UP TO DATE WHERE THEY ARE LENT
+module _ (es : Log) (c : Counts) (e : Event) (q : answerWith outside es c e .no ≡ taken) where
+  abbrev l : Link
+  l = after outside es .link
+
+  lent-number : numberOf l c e ≡ taken
+  unfolding stepOf refusedBy
+  lent-number = by-number (eqb (numberOf l c e) taken) refl
+    where
+      by-number : (b : Bool) → eqb (numberOf l c e) taken ≡ b → numberOf l c e ≡ taken
+      by-number true n = eqb-true (numberOf l c e) taken n
+      by-number false n = sym (ap (λ (s : Stepped). s .answer .no) (outside-refused l c e n)) ∙ q
+
+  pub outside-lent : answerWith outside es c e .counts ≡ added c (countsOf (heardOf (none ▷ e)) (answerWith outside es c e .reports))
+  unfolding heardOf
+  outside-lent =
+      let b = isByte (e .kind) in
+      let k = all-of es in
+      let n = number-numbered l c e .taken .0 lent-number in
+      let few : 4_000_000_000 ≤ l .taken → ⊥ = λ h. n .3 (inl h) in
+      let room : l .heard < 4_000_000_000 = omega (arith, k .kept .heard, k .kept .few, k .kept .events, few) in
+      let s = outside-taken l c e (eq-eqb (numberOf l c e) taken lent-number) in
+      let brings : List Report → Counts = λ rs. added c (countsOf (if b then e .value ∷ [] else []) rs) in
+      ap (λ (x : Stepped). x .counts) s
+      ∙ counted-lent c b (e .value) (outsideOnly b l e) (l .named) (heardWith b l) (not-above-small c (λ h. n .3 (inr h))) (tiles b l e (k .named) (omega arith))
+      (hears-most b l room)
+      ∙ ap (λ (x : Stepped). brings (listed (x .answer .reports))) (sym s)
+
 -- DEMAND 3 PASSES IT
 pub outside-three : DemandThree outside
-outside-three = record { accounted = outside-accounted; all-counted = outside-all-counted }
+outside-three = record { accounted = outside-accounted; lent-counts = outside-lent; all-counted = outside-all-counted }

@@ -50,6 +50,18 @@ countsOf heard rs = record {
   damages = reportsIn damageReport rs;
 }
 
+-- counts with others added
+unfoldable pub added : Counts → Counts → Counts
+added c d = record {
+  heard = c .heard + d .heard;
+  framed = c .framed + d .framed;
+  damaged = c .damaged + d .damaged;
+  started = c .started + d .started;
+  outside = c .outside + d .outside;
+  frames = c .frames + d .frames;
+  damages = c .damages + d .damages;
+}
+
 -- how many bytes reports name
 unfoldable pub namedIn : List Report → ℕ
 namedIn [] = 0

@@ -25,7 +25,7 @@ use Rattle.reports.specs.declared.Counts.{Counts}
 use Rattle.demands.specs.Logs.{Log, clockOf, countOf, numberAfter, takenOf}
 use Rattle.demands.specs.Refusals.{Not, Unknown, TooLate, Above, Numbered}
 use Rattle.demands.specs.Frames.{BuildNumbered, ReadNumbered, Allowed}
-use Rattle.demands.specs.Histories.{Machine, after, answerTo, AsBefore}
+use Rattle.demands.specs.Histories.{Machine, after, answerWith, answerTo, AsBefore}
 
 -- an event: a byte 55 from the tester at the very beginning
 abbrev pub someEvent : Event
@@ -36,7 +36,7 @@ pub record DemandOne (m : Machine) : Type 0 where
   -- THE NUMBER OF AN EVENT, behind any events from a fresh link, with any lent counts: 1, 2, 3 or 4 exactly when its condition holds and that of no
   -- smaller number does, and 0 exactly when none of the four holds. There is no other number.
   pub numbered : (es : Log) (c : Counts) (e : Event)
-      → Numbered (clockOf (takenOf es)) (countOf (takenOf es)) c e (m .step (after m es .link) c e .no)
+      → Numbered (clockOf (takenOf es)) (countOf (takenOf es)) c e (answerWith m es c e .no)
   -- A REFUSED EVENT CHANGES NOTHING, for any inner state, any counts, any event: with a number other than 0, the link and the counts are as they were,
   -- and there is no report.
   pub refused-as-before : (l : m .Inner) (c : Counts) (e : Event) → Not (m .step l c e .no ≡ 0) → AsBefore l c (m .step l c e)

@@ -5,9 +5,12 @@
 use Prim.Native.Nat.{_+_}
 use mathlib.Core.Path.{_≡_}
 use lib.ListN.{length}
-use Rattle.demands.specs.Logs.{Log, heardIn}
-use Rattle.demands.specs.Histories.{Machine, after}
-use Rattle.demands.specs.Accounts.{heldIn, Accounted}
+use Rattle.base.specs.Numbers.{taken}
+use Rattle.events.specs.declared.Event.{Event}
+use Rattle.reports.specs.declared.Counts.{Counts}
+use Rattle.demands.specs.Logs.{Log, none, _▷_, heardOf, heardIn}
+use Rattle.demands.specs.Histories.{Machine, after, answerWith}
+use Rattle.demands.specs.Accounts.{countsOf, added, heldIn, Accounted}
 
 -- DEMAND 3, of any link
 pub record DemandThree (m : Machine) : Type 0 where
@@ -16,6 +19,10 @@ pub record DemandThree (m : Machine) : Type 0 where
   -- reports. The bytes that the link says it holds are those heard and not named. An event makes at most three reports. (`Accounted`, in Accounts.antt, has
   -- a field for each of these.)
   pub accounted : (es : Log) → Accounted m es
+  -- THE COUNTS ARE BROUGHT UP TO DATE WHERE THEY ARE LENT, whatever they were: behind any events, one that is taken adds to each count what its byte, if it is
+  -- one, and its reports bring. ("a record the host lends, brought up to date there")
+  pub lent-counts : (es : Log) (c : Counts) (e : Event) → answerWith m es c e .no ≡ taken
+      → answerWith m es c e .counts ≡ added c (countsOf (heardOf (none ▷ e)) (answerWith m es c e .reports))
   -- NO BYTE IS MISSING FROM THE COUNTS: the bytes heard are those in reports 1, in reports 2, in reports 3 with 4, in reports 5, and those held.
   pub all-counted : (es : Log) → length (heardIn es)
       ≡ after m es .counts .framed + after m es .counts .damaged + after m es .counts .started + after m es .counts .outside

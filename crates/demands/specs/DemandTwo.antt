@@ -28,9 +28,10 @@ use Rattle.frame.specs.ReadsBack.{BuiltReadsBack}
 use Rattle.events.specs.declared.Kind.the-variants.{Byte, Drop}
 use Rattle.events.specs.declared.Event.{Event}
 use Rattle.reports.specs.declared.Report.{Report}
+use Rattle.reports.specs.declared.Counts.{Counts}
 use Rattle.demands.specs.Refusals.{Not}
 use Rattle.demands.specs.Logs.{Log, _▷_, InBytes, numberAfter, takenOf, heardIn, Begins}
-use Rattle.demands.specs.Histories.{Machine, reportsTo, reportsOf, Says, Among, Tells}
+use Rattle.demands.specs.Histories.{Machine, after, answerWith, reportsTo, reportsOf, Says, Among, Tells}
 use Rattle.demands.specs.Accounts.{heldIn}
 use Rattle.demands.specs.Connecting.{Connects, Connected}
 use Rattle.demands.specs.Sessions.{Talk, Session, SomeSession, Reads, OpensIn, Turns, gapBefore, NoReply}
@@ -155,5 +156,9 @@ pub record DemandTwo (m : Machine) : Type 0 where
   -- ---- f. THE REPORTS OF ONE EVENT
   -- They come in the order of the rules, and no rule reports twice.
   pub in-order : (es : Log) (e : Event) → InOrder 0 (reportsTo m es e)
+  -- They go by the events alone, and by no counts: an event that is taken with other counts lent is reported as it is with those of the history, and leaves
+  -- the same link. ("indexes come from the link")
+  pub lent-alike : (es : Log) (c : Counts) (e : Event) → answerWith m es c e .no ≡ taken
+      → (answerWith m es c e .reports ≡ reportsTo m es e) × (answerWith m es c e .link ≡ after m (es ▷ e) .link)
   -- A report 4 names all bytes that were held for reasons 1 and 2, none for 3, and for 4, 5 and 6 these and the byte that fails.
   pub failed-names : (es : Log) (e : Event) (r : Report) → Among r (reportsTo m es e) → r .number ≡ failedReport → NamesFailed (heldIn m es) r

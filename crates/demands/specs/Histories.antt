@@ -38,9 +38,25 @@ unfoldable pub after : (m : Machine) → Log → Host (m .Inner)
 after m none = record { link = m .fresh; counts = zeroCounts }
 after m (es ▷ e) = kept (m .step (after m es .link) (after m es .counts) e)
 
--- the answer to an event behind events
+-- the answer to an event behind events, with these counts lent; with the counts of the history, which only the link has changed
+abbrev pub answerWith : (m : Machine) → Log → Counts → Event → Told (m .Inner)
+answerWith m es c e = m .step (after m es .link) c e
+
 abbrev pub answerTo : (m : Machine) → Log → Event → Told (m .Inner)
-answerTo m es e = m .step (after m es .link) (after m es .counts) e
+answerTo m es e = answerWith m es (after m es .counts) e
+
+-- A host may lend other counts with each event: the events with the counts that are lent for them, in order; the events alone; and the link behind them
+pub data Lendings : Type 0 where
+  nothing : Lendings
+  lend : Lendings → Counts → Event → Lendings
+
+unfoldable pub lentEvents : Lendings → Log
+lentEvents nothing = none
+lentEvents (lend h c e) = lentEvents h ▷ e
+
+unfoldable pub lentLink : (m : Machine) → Lendings → m .Inner
+lentLink m nothing = m .fresh
+lentLink m (lend h c e) = m .step (lentLink m h) c e .link
 
 -- its reports
 abbrev pub reportsTo : Machine → Log → Event → List Report
