@@ -13,13 +13,13 @@ use lib.ListN.{length}
 use Rattle.base.specs.Sums.{countSum, byteSum}
 use Rattle.base.specs.Numbers.{taken}
 use Rattle.base.specs.Choice.{if_then_else_}
-use Rattle.base.specs.Reports.{frameReport, connectedReport, failedReport, windowOver}
+use Rattle.base.specs.Reports.{frameReport, connectedReport, failedReport, outsideReport, windowOver}
 use Rattle.units.specs.Units.{micros}
 use Rattle.keys.specs.Keys.{goodPair, lengthInFormat, extraLength, noAddresses, withAddresses, isExtended, takesForm}
 use Rattle.timing.specs.Timing.{setOf, minOf, p3MaxOf, p2Half, p2MaxOf, windowsBy, isBelow, isAllowed, decodedOf, sameWindows, isPassed, isUnlimited}
 use Rattle.frame.specs.Layout.{formatForm}
 use Rattle.events.specs.Events.{isByte, isOther, isNobody, isTester, isUnit, sameSide, marks, isUnknown, isTooLate, isOutOfOrder, refusal}
-use Rattle.events.specs.declared.Kind.the-variants.{WakeUp, Tick}
+use Rattle.events.specs.declared.Kind.the-variants.{WakeUp, Tick, Other}
 use Rattle.events.specs.declared.Side.{Side}
 use Rattle.events.specs.declared.Side.the-variants.{Tester, Unit, Nobody}
 use Rattle.events.specs.declared.Event.{Event}
@@ -38,11 +38,11 @@ use Rattle.reports.specs.declared.Counts.{Counts}
 use Rattle.link.specs.Handling.{freshLink, passed, shut, byteHeard, acted, begun, handled, markAfter, linkAfter}
 use Rattle.link.specs.Stepping.{numberOf, refusedBy, takenBy, answerOf, countsAfter, stepOf}
 use Rattle.demands.specs.Logs.{Log, none, _▷_, heardOf, countOf, clockOf, numberAfter, takenOf, heardIn}
-use Rattle.demands.specs.Histories.{Machine, after, reportsTo, reportsOf, isAmong, Among, first, later}
+use Rattle.demands.specs.Histories.{Machine, after, answerWith, reportsTo, reportsOf, isAmong, Among, first, later}
 use Rattle.demands.specs.Accounts.{InTurn, reportsIn, countsOf, namedIn, heldIn, Accounted}
 use Rattle.demands.specs.Orders.{ruleOf, InOrder, NamesFailed}
 use Rattle.demands.proofs.Example.{byteFrom, address, fastEvents, fastLast}
-use Rattle.demands.specs.Wrong.{unchanged, idling, inventing, behind, twice, disordered, repeating, moving, shifting}
+use Rattle.demands.specs.Wrong.{unchanged, idling, inventing, behind, twice, forgetting, possessive, disordered, repeating, moving, shifting}
 use Rattle.demands.specs.OurLink.{ourLink}
 
 -- ---- some events
@@ -52,6 +52,16 @@ tick = record { start = micros 0; end = micros 0; kind = Tick; side = Nobody; va
 
 abbrev pub twoBytes : Log
 twoBytes = none ▷ byteFrom Tester 0x12 0 ▷ byteFrom Tester 0x34 1_000
+
+-- an event of no kind; and a byte with counts lent that are not the link's own
+abbrev pub unknown : Event
+unknown = record { start = micros 2_000; end = micros 2_000; kind = Other; side = Nobody; value = 0 }
+
+abbrev pub oneByte : Event
+oneByte = byteFrom Tester 0x12 0
+
+abbrev pub oneHeard : Counts
+oneHeard = record { heard = 1; framed = 0; damaged = 0; started = 0; outside = 1; frames = 0; damages = 0 }
 
 -- bytes of a side behind a log, with no gap between
 abbrev pub bytesFrom : Side → ℕ → List ℕ → Log → Log
@@ -150,6 +160,11 @@ pub record Computed : Type 0 where
   pub of-inventing : fair inventing (none ▷ tick) ≡ false
   pub of-behind : fair behind retiming ≡ false
   pub of-twice : fair twice retiming ≡ false
+  pub refuses-unknown : eqb (answerWith forgetting twoBytes zeroCounts unknown .no) 0 ≡ false
+  pub of-forgetting : eqb (answerWith forgetting twoBytes zeroCounts unknown .link .clock .0) (after forgetting twoBytes .link .clock .0) ≡ false
+  pub takes-lent : answerWith possessive none oneHeard oneByte .no ≡ taken
+  pub of-possessive : isAmong outsideReport (answerWith possessive none oneHeard oneByte .reports) ≡ false
+  pub own-reported : isAmong outsideReport (reportsTo possessive none oneByte) ≡ true
   pub of-disordered : isInOrder 0 (reportsTo disordered cutOff tooSoon) ≡ false
   pub of-repeating : isInOrder 0 (reportsTo repeating asking tooLate) ≡ false
   pub of-moving : isInOrder 0 (reportsTo moving addressed unheard) ≡ false
@@ -173,4 +188,4 @@ unfolding
     formatForm placeAnnounced hasExtra begunMessage partAfterFormat afterAddresses laterReason isSum grown withData withSeven afterData holding talking
     framed asked answered timed settled damaged requestOf isExactly asksCodes windowsAfter isEffective windowsFor codesIn ifAllowed decodedOf isAllowed
     windowsBy minOf p2MaxOf p2Half p3MaxOf isBelow spent requestAfter sameWindows lossReason slowStart complement ruleOf heldIn namedIn
-computed = record { of-unchanged = refl; of-idling = refl; of-inventing = refl; of-behind = refl; of-twice = refl; of-disordered = refl; of-repeating = refl; of-moving = refl; of-shifting = refl; ours-taken = refl; ours-fair = refl; ours-connects = refl; ours-cut-off = refl; ours-over = refl }
+computed = record { of-unchanged = refl; of-idling = refl; of-inventing = refl; of-behind = refl; of-twice = refl; refuses-unknown = refl; of-forgetting = refl; takes-lent = refl; of-possessive = refl; own-reported = refl; of-disordered = refl; of-repeating = refl; of-moving = refl; of-shifting = refl; ours-taken = refl; ours-fair = refl; ours-connects = refl; ours-cut-off = refl; ours-over = refl }

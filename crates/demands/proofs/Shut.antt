@@ -6,10 +6,11 @@ use mathlib.Core.List.{List, [], _∷_}
 use mathlib.Core.Logic.{_⊎_, ⊎-elim}
 use mathlib.Core.Path.{_≡_, refl, sym, ap, _∙_}
 use native.Mathlib.Omega.{arith}
+use borrow.Author.Tests.{eq-eqb}
 use lib.Dec.{eqb}
 use lib.ListN.{getD}
 use Rattle.base.specs.Numbers.{taken}
-use Rattle.base.specs.Reports.{connectedReport}
+use Rattle.base.specs.Reports.{connectedReport, outsideReport}
 use Rattle.base.proofs.Tests.{by-test}
 use Rattle.keys.specs.declared.Form.the-variants.{Plain}
 use Rattle.frame.specs.ReadsBack.{ReadsBack}
@@ -25,11 +26,11 @@ use Rattle.link.specs.declared.Link.{Link}
 use Rattle.demands.specs.Refusals.{Above}
 use Rattle.demands.specs.Histories.{after, reportsTo, isAmong}
 use Rattle.demands.proofs.Example.{fastEvents, fastLast, fast-connects, fast-number}
-use Rattle.demands.specs.Wrong.{refusing, outsideStep, outside, unchanged, idling, inventing, behind, twice, disordered, repeating, moving, shifting}
+use Rattle.demands.specs.Wrong.{refusing, outsideStep, outside, unchanged, idling, inventing, behind, twice, forgetting, possessive, disordered, repeating, moving, shifting}
 use Rattle.demands.specs.DemandOne.{DemandOne}
 use Rattle.demands.specs.DemandTwo.{DemandTwo}
 use Rattle.demands.specs.DemandThree.{DemandThree}
-use Rattle.demands.proofs.Computed.{tick, twoBytes, retiming, cutOff, tooSoon, asking, tooLate, addressed, unheard, lowWrong, is-fair, in-order, named-by, computed}
+use Rattle.demands.proofs.Computed.{tick, twoBytes, unknown, oneByte, oneHeard, retiming, cutOff, tooSoon, asking, tooLate, addressed, unheard, lowWrong, is-fair, in-order, named-by, computed}
 
 -- ---- DEMAND 3 SHUTS OUT ..
 -- .. a step that leaves the link unchanged: two bytes are both reported with index 0
@@ -52,7 +53,8 @@ behind-shut d = false≢true (sym (computed .of-behind) ∙ is-fair behind retim
 pub twice-shut : DemandThree twice → ⊥
 twice-shut d = false≢true (sym (computed .of-twice) ∙ is-fair twice retiming (d .accounted retiming))
 
--- ---- DEMAND 1 SHUTS OUT a link that refuses everything: a fresh link takes a tick
+-- ---- DEMAND 1 SHUTS OUT ..
+-- .. a link that refuses everything: a fresh link takes a tick
 under : {A : Type 0} → (4_000_000_000 < 0) ⊎ A → (A → ⊥) → ⊥
 under u f = ⊎-elim (λ h. omega arith) f u
 
@@ -70,6 +72,18 @@ refusing-shut d =
       (λ u. ⊎-elim (λ k. omega arith) (λ k. omega arith) u),
       (λ u. ⊎-elim (λ k. omega arith) no-count-above u),
     )))
+
+-- .. and a link that a refused event makes fresh again: its clock is not what it was
+pub forgetting-shut : DemandOne forgetting → ⊥
+forgetting-shut d =
+    let before = d .refused-as-before (after forgetting twoBytes .link) zeroCounts unknown (λ q. false≢true (sym (computed .refuses-unknown) ∙ eq-eqb _ 0 q)) in
+    false≢true (sym (computed .of-forgetting) ∙ eq-eqb _ _ (ap (λ (l : Link). l .clock .0) (before .link)))
+
+-- ---- DEMAND 2 SHUTS OUT a link that reports nothing while counts are lent that are not its own
+pub possessive-shut : DemandTwo possessive → ⊥
+possessive-shut d =
+    let same = d .lent-alike none oneHeard oneByte (computed .takes-lent) .0 in
+    false≢true (sym (computed .of-possessive) ∙ ap (isAmong outsideReport) same ∙ computed .own-reported)
 
 -- ---- DEMAND 2 SHUTS OUT a link that reports each byte as outside: it never says that it is connected
 no-three : (b : Bool) (l : Link) (c : Counts) (e : Event) → eqb (numberOf l c e) taken ≡ b → isAmong connectedReport (listed (outsideStep l c e .answer .reports)) ≡ false

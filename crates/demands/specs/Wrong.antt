@@ -1,5 +1,5 @@
--- The wrong programs that document 01 wants shut out ("What a caller can rely on"), the accident that must not come again, and four wrong links that the last
--- two fields of demand 2 are there for. That each breaks a demand is proved in proofs/Shut.antt.
+-- The wrong programs that document 01 wants shut out ("What a caller can rely on"), the accident that must not come again, and wrong links that a single field
+-- of a demand is there for. That each breaks a demand is proved in proofs/Shut.antt.
 -- Assumes nothing.
 use Prim.Native.Nat.{ℕ, _+_, _-_}
 use mathlib.Core.Bool.{Bool, true, false, not, _&&_}
@@ -14,7 +14,7 @@ use Rattle.events.specs.Events.{isByte}
 use Rattle.events.specs.declared.Event.{Event}
 use Rattle.phases.specs.Phases.{isQuiet, isHeld, down}
 use Rattle.reports.specs.Reporting.{noReports, appended, listed}
-use Rattle.reports.specs.Counting.{countedEvent}
+use Rattle.reports.specs.Counting.{zeroCounts, countedEvent}
 use Rattle.reports.specs.declared.Report.{Report}
 use Rattle.reports.specs.declared.Reports.{Reports}
 use Rattle.reports.specs.declared.Counts.{Counts}
@@ -23,7 +23,7 @@ use Rattle.link.specs.Stepping.{numberOf, refusedBy, stepOf}
 use Rattle.link.specs.declared.Link.{Link}
 use Rattle.link.specs.declared.Stepped.{Stepped}
 use Rattle.listing.specs.Listing.{heldOf}
-use Rattle.demands.specs.Histories.{Machine}
+use Rattle.demands.specs.Histories.{Machine, Host}
 use Rattle.demands.specs.Ours.{machineOf}
 
 -- other reports than the right ones, with the counts that fit them; other counts
@@ -111,6 +111,38 @@ abbrev pub twice : Machine
 twice = machineOf (λ l c e.
     let s = stepOf l c e in
     if retimed l s then withReports c s (appended (s .answer .reports) (s .answer .reports .a)) else s)
+
+-- ---- what a history with the link's own counts does not show
+-- one that a refused event makes fresh again
+abbrev pub forgetting : Machine
+forgetting = machineOf (λ l c e. if eqb (numberOf l c e) taken then stepOf l c e else record { answer = refusedBy freshLink (numberOf l c e); counts = c })
+
+-- one that knows its own counts, and reports and counts nothing while others are lent
+abbrev areSame : Counts → Counts → Bool
+areSame c d =
+    eqb (c .heard) (d .heard)
+    && eqb (c .framed) (d .framed)
+    && eqb (c .damaged) (d .damaged)
+    && eqb (c .started) (d .started)
+    && eqb (c .outside) (d .outside)
+    && eqb (c .frames) (d .frames)
+    && eqb (c .damages) (d .damages)
+
+abbrev pub possessive : Machine
+possessive = record {
+  Inner = Host Link;
+  fresh = record { link = freshLink; counts = zeroCounts };
+  step = λ h c e.
+      let s = stepOf (h .link) c e in
+      let own = areSame c (h .counts) in
+      record {
+        link = record { link = s .answer .link; counts = if own then s .counts else h .counts };
+        no = s .answer .no;
+        reports = if own then listed (s .answer .reports) else [];
+        counts = if own then s .counts else c;
+      };
+  held = λ h. heldOf (h .link);
+}
 
 -- ---- OUR LINK WITH ITS REPORTS CHANGED, and the counts that fit them: whatever can be seen of it beside them is as it should be
 -- each report's first index is the number of bytes named before it
