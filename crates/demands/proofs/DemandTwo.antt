@@ -13,6 +13,7 @@ use Rattle.demands.proofs.Order as order
 use Rattle.demands.proofs.Lending as lending
 use Rattle.demands.proofs.FailedNames as failedNames
 use Rattle.demands.proofs.NoneHeld as noneHeld
+use Rattle.demands.proofs.Placing.{built-placed}
 use Rattle.demands.proofs.Leaving as leaving
 use Rattle.demands.proofs.Each as each
 use Rattle.demands.proofs.Failing as failing
@@ -29,6 +30,7 @@ foundation : Foundation
 foundation = record {
   keys = good-pairs;
   built = built-reads-back;
+  placed = built-placed;
   read = reads-exactly;
   sums = read-sums-up;
   p2max = rule;

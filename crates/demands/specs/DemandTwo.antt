@@ -8,7 +8,7 @@ use mathlib.Core.List.{List}
 use mathlib.Core.Logic.{_↔_, _⊎_}
 use mathlib.Core.Path.{_≡_}
 use lib.Dec.{eqb}
-use lib.ListN.{length, getD}
+use lib.ListN.{length, getD, take}
 use Rattle.base.specs.Numbers.{taken}
 use Rattle.base.specs.Reports.{frameReport, damageReport, connectedReport, failedReport, outsideReport, noReplyReport, downReport, notIdleReport}
 use Rattle.base.specs.Reports.{closed, windowOver, wrongLow, stopped, idleOver}
@@ -30,6 +30,7 @@ use Rattle.events.specs.declared.Event.{Event}
 use Rattle.reports.specs.declared.Report.{Report}
 use Rattle.reports.specs.declared.Counts.{Counts}
 use Rattle.demands.specs.Refusals.{Not}
+use Rattle.demands.specs.Frames.{LengthPlaced}
 use Rattle.demands.specs.Logs.{Log, _▷_, InBytes, numberAfter, takenOf, heardIn, Begins}
 use Rattle.demands.specs.Histories.{Machine, after, answerWith, reportsTo, reportsOf, Says, Among, Tells}
 use Rattle.demands.specs.Accounts.{heldIn}
@@ -48,6 +49,9 @@ pub record Foundation : Type 0 where
   pub keys : (kb1 kb2 : ℕ) → kb1 < 256 → goodPair kb1 kb2 ≡ (eqb kb2 0x8F && isIn kb1 eighteen)
   -- what `build` builds reads back: form, the addresses it carries, data; and what stood behind it in the buffer still does
   pub built : (p : Plan) (bytes out : List ℕ) (r : Built) (after : List ℕ) → Builds p bytes out r after → r .no ≡ taken → BuiltReadsBack p bytes out r after
+  -- .. and has its length in the format byte wherever it may stand there, and otherwise in the extra byte
+  pub placed : (p : Plan) (bytes out : List ℕ) (r : Built) (after : List ℕ) → Builds p bytes out r after → r .no ≡ taken
+      → LengthPlaced (p .kb1) (length bytes) (take (r .len) after)
   -- `read` takes exactly the frames that good key bytes announce, and their last byte is the sum of all before it
   pub read : (kb1 kb2 : ℕ) (s : List ℕ) → ((i : ℕ) → getD s i 0 < 256) → (readOf kb1 kb2 s .no ≡ taken) ↔ IsFrame kb1 kb2 s
   pub sums : (kb1 kb2 : ℕ) (s : List ℕ) → ((i : ℕ) → getD s i 0 < 256) → readOf kb1 kb2 s .no ≡ taken → SumsUp s

@@ -107,6 +107,14 @@ pub record ReadNumbered (kb1 kb2 : ℕ) (s : List ℕ) (no : ℕ) : Type 0 where
   pub read : (no ≡ 0) ↔ (Not (BadKeys kb1 kb2) × Not (BadMode kb1 s) × Not (BadSlice kb1 s) × Not (BadSum s))
   pub no-other : (no ≡ 0) ⊎ ((5 ≤ no) × (no ≤ 7)) ⊎ (no ≡ 9)
 
+-- ---- what is built
+-- "Length 1 to 63 goes in the format byte if KB1 bit 0 is set; otherwise lengths 1 to 255 take the extra byte if bit 1 is set": where a frame that was
+-- built has the length of its n data bytes. In the format byte these are its low six bits; otherwise the low six bits are 0, and it stands behind the
+-- addresses.
+pub record LengthPlaced (kb1 n : ℕ) (frame : List ℕ) : Type 0 where
+  pub in-format : GoesInFormat kb1 n → lowSix frame ≡ n
+  pub in-extra : Not (GoesInFormat kb1 n) → TakesExtra kb1 n × (lowSix frame ≡ 0) × (extraByte frame ≡ n)
+
 -- ---- timing
 -- a min below its max; no limit is above every min
 abbrev pub Below : Micros → Limit → Type 0

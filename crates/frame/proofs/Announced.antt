@@ -4,7 +4,7 @@ use mathlib.Core.Bool.{Bool, true, false, _&&_, not, true≢false}
 use mathlib.Core.List.{List}
 use Prim.Native.Nat.{ℕ, _+_, _≤_}
 use native.Mathlib.Omega.{arith}
-use borrow.Author.Tests.{leb-true, ltb-false, eq-eqb, ne-eqb}
+use borrow.Author.Tests.{leb-true, le-leb, ltb-false, eq-eqb, ne-eqb}
 use lib.Dec.{leb, ltb}
 use lib.ListN.{length}
 use Rattle.base.specs.Choice.{if_then_else_}
@@ -35,23 +35,37 @@ somewhere kb1 Format n p = refl
 somewhere kb1 Extra n p = refl
 somewhere kb1 Nowhere n p = absurd p
 
-by-tests : (kb1 n : ℕ) (a b : Bool) → (lengthInFormat kb1 && (leb 1 n && leb n 63)) ≡ a → (extraLength kb1 && (leb 1 n && leb n 255)) ≡ b
-    → isNowhere (if a then Format else if b then Extra else Nowhere) ≡ false → Placed kb1 (if a then Format else if b then Extra else Nowhere) n
+-- a bit of KB1, and a length from 1 up to what a place holds
+fits-by : (bit : Bool) (n most : ℕ) → (bit && (leb 1 n && leb n most)) ≡ true → (bit ≡ true) × (1 ≤ n) × (n ≤ most)
+fits-by bit n most e =
+    let p = and-split bit _ e in
+    let q = and-split (leb 1 n) (leb n most) (p .1) in
+    (p .0, leb-true 1 n (q .0), leb-true n most (q .1))
+
+abbrev placeBy : Bool → Bool → Place
+placeBy a b = if a then Format else if b then Extra else Nowhere
+
+by-tests : (kb1 n m k : ℕ) (a b : Bool) → (lengthInFormat kb1 && (leb 1 n && leb n m)) ≡ a → (extraLength kb1 && (leb 1 n && leb n k)) ≡ b
+    → isNowhere (placeBy a b) ≡ false → m ≤ 63 → k ≤ 255 → Placed kb1 (placeBy a b) n
 unfolding isNowhere
-by-tests kb1 n true b ea eb h =
-    let p = and-split (lengthInFormat kb1) _ ea in
-    let q = and-split (leb 1 n) (leb n 63) (p .1) in
-    (p .0, leb-true 1 n (q .0), leb-true n 63 (q .1))
-by-tests kb1 n false true ea eb h =
-    let p = and-split (extraLength kb1) _ eb in
-    let q = and-split (leb 1 n) (leb n 255) (p .1) in
-    (p .0, leb-true 1 n (q .0), leb-true n 255 (q .1))
-by-tests kb1 n false false ea eb h = absurd (true≢false h)
+by-tests kb1 n m k true b ea eb h hm hk = let f = fits-by (lengthInFormat kb1) n m ea in (f .0, f .1, omega (arith, f .2))
+by-tests kb1 n m k false true ea eb h hm hk = let f = fits-by (extraLength kb1) n k eb in (f .0, f .1, omega (arith, f .2))
+by-tests kb1 n m k false false ea eb h hm hk = absurd (true≢false h)
 
 -- a length that goes somewhere fits there
 pub placed-for : (kb1 n : ℕ) → isNowhere (placeFor kb1 n) ≡ false → Placed kb1 (placeFor kb1 n) n
 unfolding placeFor
-placed-for kb1 n h = by-tests kb1 n (lengthInFormat kb1 && (leb 1 n && leb n 63)) (extraLength kb1 && (leb 1 n && leb n 255)) refl refl h
+placed-for kb1 n h = by-tests kb1 n _ _ _ _ refl refl h (omega arith) (omega arith)
+
+-- and such a length passes the first test
+first-by : (bit : Bool) (n most : ℕ) (other : Place) → bit ≡ true → 1 ≤ n → n ≤ most
+    → (if bit && (leb 1 n && leb n most) then Format else other) ≡ Format
+first-by bit n most other e some few = rw (e, le-leb 1 n some, le-leb n most few)
+
+-- A LENGTH THAT FITS IN THE FORMAT BYTE GOES THERE, if KB1 announces that place, and not in the extra byte
+pub format-first : (kb1 n : ℕ) → Placed kb1 Format n → placeFor kb1 n ≡ Format
+unfolding placeFor
+format-first kb1 n p = first-by (lengthInFormat kb1) n _ _ (p .0) (p .1) (omega (arith, p .2))
 
 -- the number 0 comes only where no test refuses
 pub record NoneRefuses (p : Plan) (n room : ℕ) : Type 0 where

@@ -5,5 +5,6 @@ pub mod Writing
 pub mod Within
 pub mod Starts
 pub mod RoundTrip
+pub mod Placing
 pub mod WellRead
 pub mod One

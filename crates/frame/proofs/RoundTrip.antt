@@ -109,12 +109,17 @@ built-no p n room = by-no (eqb (buildNo p n room) taken) refl
     by-no true e = sym (eqb-true (buildNo p n room) taken e)
     by-no false e = refl
 
+-- the number 0 of an answer is the one that the tests give
+pub built-taken : (p : Plan) (bytes out : List ℕ) (r : Built) (after : List ℕ) → Builds p bytes out r after → r .no ≡ taken
+    → buildNo p (length bytes) (length out) ≡ taken
+built-taken p bytes out r after b e = sym (built-no p (length bytes) (length out)) ∙ ap (λ (k : Built). k .no) (sym (b .answer)) ∙ e
+
 -- WHAT `build` BUILDS READS BACK
 pub built-reads-back : (p : Plan) (bytes out : List ℕ) (r : Built) (after : List ℕ) → Builds p bytes out r after → r .no ≡ taken → BuiltReadsBack p bytes out r after
 unfolding builtOf bufferAfter over planned sizeOf
 built-reads-back p bytes out r after b e =
     let n = length bytes in
-    let no : buildNo p n (length out) ≡ taken = sym (built-no p n (length out)) ∙ ap (λ (k : Built). k .no) (sym (b .answer)) ∙ e in
+    let no = built-taken p bytes out r after b e in
     let x = none-refuses p n (length out) no in
     record {
       frame = planned p bytes;
@@ -125,3 +130,11 @@ built-reads-back p bytes out r after b e =
       form-number = number-back (p .kb1) (p .form) (x .announced .takes);
       reads-back = frame-reads-back (p .kb1) (p .kb2) (formNumbered (p .form)) (placeFor (p .kb1) n) (p .target) (p .source) bytes (x .announced);
     }
+
+-- .. and is the frame that is planned: so many bytes at the front
+pub built-front : (p : Plan) (bytes out : List ℕ) (r : Built) (after : List ℕ) → Builds p bytes out r after → r .no ≡ taken
+    → take (r .len) after ≡ planned p bytes
+unfolding built-reads-back
+built-front p bytes out r after b e =
+    let w = built-reads-back p bytes out r after b e in
+    ap (take (r .len)) (w .memory) ∙ take-at (planned p bytes) _ (r .len) (sym (w .size))

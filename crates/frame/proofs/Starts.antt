@@ -68,7 +68,7 @@ place-back kb1 form Extra n p = rw (low-back form 0 (omega arith), p .0)
 place-back kb1 form Nowhere n p = absurd p
 
 -- the extra byte stands behind the addresses
-extra-at : (form : Form) (t s n f : ℕ) (rest : List ℕ) → getD (f ∷ ((addressesOf form t s ++ (n ∷ [])) ++ rest)) (1 + addressCount form) 0 ≡ n
+pub extra-at : (form : Form) (t s n f : ℕ) (rest : List ℕ) → getD (f ∷ ((addressesOf form t s ++ (n ∷ [])) ++ rest)) (1 + addressCount form) 0 ≡ n
 unfolding addressesOf addressCount
 extra-at Plain t s n f rest = refl
 extra-at Physical t s n f rest = refl
