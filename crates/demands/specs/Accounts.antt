@@ -1,4 +1,4 @@
--- Demand 3: what reports name, and counts worked out from a history. Assumes nothing.
+-- What reports name, bytes held, and counts worked out from a history, for demands 2 and 3. Assumes nothing.
 use Prim.Native.Nat.{ℕ, _+_, _-_, _≤_}
 use mathlib.Core.List.{List, [], _∷_, _++_}
 use mathlib.Core.Path.{_≡_}

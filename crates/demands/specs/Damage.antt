@@ -1,5 +1,5 @@
 -- Why bytes are reported as damage, told by the values and sides of the bytes that report 2 names, from the first one on, and by KB1 (document 01,
--- "Connected."). That the link's reasons are these is proved in proofs/Breaking.antt.
+-- "Connected."). Stated of any link in DemandTwo.antt; that it holds of ours is proved in proofs/Breaking.antt.
 -- Assumes nothing.
 use Prim.Native.Nat.{ℕ, _+_, _/_, _%_, _<_}
 use mathlib.Core.Bool.{Bool, not, _&&_}

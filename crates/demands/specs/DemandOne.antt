@@ -53,7 +53,7 @@ pub record DemandOne (m : Machine) : Type 0 where
       → Numbered (clockOf (takenOf es)) (countOf (takenOf es)) zeroCounts e (answerTo m es e .no)
   -- .. since none of them ever comes to be above 4,000,000,000.
   pub never-above : (es : Log) → Not (Above (after m es .counts))
-  -- ---- FRAMES AND TIMING CODES
+  -- ---- FRAMES AND TIMING CODES. (These speak of `build`, `read` and the codes by their definitions, and of no link.)
   -- Building gets 5, 6, 7 or 8 exactly when its condition holds and that of no smaller number does, and 0 exactly when none does: for every plan, data
   -- and buffer. Where it is refused, the buffer is as it was, and the length is 0.
   pub building-numbered : (p : Plan) (bytes out : List ℕ) (r : Built) (after : List ℕ) → Builds p bytes out r after

@@ -23,8 +23,11 @@ use Rattle.frame.specs.Read.{readOf}
 use Rattle.frame.specs.declared.Plan.{Plan}
 use Rattle.frame.specs.declared.Built.{Built}
 use Rattle.frame.specs.Layout.{SumsUp}
-use Rattle.frame.specs.Announced.{IsFrame}
-use Rattle.frame.specs.ReadsBack.{BuiltReadsBack}
+use Rattle.frame.specs.Announced.{Announced, IsFrame}
+use Rattle.frame.specs.ReadsBack.{ReadsBack, BuiltReadsBack}
+use Rattle.frame.specs.Layout.{frameOf}
+use Rattle.frame.specs.declared.Place.{Place}
+use Rattle.keys.specs.declared.Form.{Form}
 use Rattle.events.specs.declared.Kind.the-variants.{Byte, Drop}
 use Rattle.events.specs.declared.Event.{Event}
 use Rattle.reports.specs.declared.Report.{Report}
@@ -43,21 +46,26 @@ use Rattle.demands.specs.Orders.{InOrder, NamesFailed}
 use Rattle.demands.specs.Endings.{Starter, NotIdle, WrongLow, Starting, AnswersStop, Downs}
 use Rattle.demands.specs.Messages.{EndsInFrame, ReportsFrame}
 
--- ---- a. KEY BYTES, FRAMES, TIMING CODES: what the crates below have proved, in one place
+-- ---- a. KEY BYTES, FRAMES, TIMING CODES: what the crates below have proved, in one place. (These speak of `build`, `read` and the codes by their
+-- definitions, and of no link.)
 pub record Foundation : Type 0 where
   -- the good pairs are the 18 values of document 01 with 8F, and no other
   pub keys : (kb1 kb2 : ℕ) → kb1 < 256 → goodPair kb1 kb2 ≡ (eqb kb2 0x8F && isIn kb1 eighteen)
   -- what `build` builds reads back: form, the addresses it carries, data; and what stood behind it in the buffer still does
   pub built : (p : Plan) (bytes out : List ℕ) (r : Built) (after : List ℕ) → Builds p bytes out r after → r .no ≡ taken → BuiltReadsBack p bytes out r after
-  -- .. and has its length in the format byte wherever it may stand there, and otherwise in the extra byte
+  -- .. and has its length in the format byte wherever it may stand there, and otherwise in the extra byte;
   pub placed : (p : Plan) (bytes out : List ℕ) (r : Built) (after : List ℕ) → Builds p bytes out r after → r .no ≡ taken
       → LengthPlaced (p .kb1) (length bytes) (take (r .len) after)
-  -- `read` takes exactly the frames that good key bytes announce, and their last byte is the sum of all before it
+  -- .. and so reads every frame that good key bytes announce, also such as `build` does not make (a length below 64 in the extra byte, where it could stand
+  -- in the format byte)
+  pub announced : (kb1 kb2 : ℕ) (form : Form) (place : Place) (target source : ℕ) (bytes : List ℕ) → Announced kb1 kb2 form place (length bytes)
+      → ReadsBack kb1 kb2 form target source bytes (frameOf form place target source bytes)
+  -- `read` takes exactly these, and their last byte is the sum of all before it
   pub read : (kb1 kb2 : ℕ) (s : List ℕ) → ((i : ℕ) → getD s i 0 < 256) → (readOf kb1 kb2 s .no ≡ taken) ↔ IsFrame kb1 kb2 s
   pub sums : (kb1 kb2 : ℕ) (s : List ℕ) → ((i : ℕ) → getD s i 0 < 256) → readOf kb1 kb2 s .no ≡ taken → SumsUp s
   -- the table of P2 max: its rule at each of its 256 entries
   pub p2max : (k : ℕ) → k < 256 → getD table k 0 ≡ p2Half k .0
-  -- allowed codes become windows and are their codes; windows that have codes become them and are their windows; windows have codes exactly if
+  -- allowed codes become windows, which become the same codes again; windows that become codes come back from them; windows have codes exactly if
   -- allowed codes stand for them, and are 10 otherwise
   pub codes : (c : Codes) → Bytes c → decodedOf c .no ≡ taken → encodedOf (decodedOf c .windows) ≡ record { no = taken; codes = c }
   pub windows : (w : Windows) → encodedOf w .no ≡ taken → decodedOf (encodedOf w .codes) ≡ record { no = taken; windows = w }

@@ -1,5 +1,5 @@
--- What each report of an event says, whatever the events before it (document 01, "Events and what the link does"). That every report of the link says so
--- is proved in proofs/Each.antt.
+-- What each report of an event says, whatever the events before it (document 01, "Events and what the link does"). Stated of
+-- any link in DemandTwo.antt; that it holds of ours is proved in proofs/Each.antt.
 -- Assumes nothing.
 use Prim.Native.Nat.{_≤_}
 use mathlib.Core.Path.{_≡_}

@@ -1,4 +1,4 @@
--- What ends an initialization and a session, told by the history (document 01, "Events and what the link does"). That the link's reports are exactly
+-- What ends an initialization and a session, told by the history (document 01, "Events and what the link does"). That a link's reports are exactly
 -- these is stated in DemandTwo.antt.
 -- Assumes nothing.
 use Prim.Native.Nat.{ℕ, _+_, _≤_, _<_}
@@ -33,7 +33,8 @@ NotIdle log e = Starter e × (e .start .0 < markOf log .0 + 300_000)
 abbrev pub WrongLow : Log → Event → Type 0
 WrongLow log e = (e .kind ≡ WakeUp) × (markOf log .0 + 300_000 ≤ e .start .0) × Not (Low e)
 
--- ---- AN INITIALIZATION of the history: from an address or wake-up on that was idle long enough and low long enough, as long as no report 3 or 4 is made.
+-- ---- AN INITIALIZATION of the history: from an address or wake-up on that comes 300 ms or more behind the mark and, if a wake-up, is low for 24 to 26 ms, as
+-- long as no report 3 or 4 is made.
 pub data Starting (m : Machine) : Log → Type 0 where
   starts : {es : Log} {e : Event} → numberAfter (takenOf es) e ≡ taken → Starter e → Not (NotIdle (takenOf es) e) → Not (WrongLow (takenOf es) e)
       → Starting m (es ▷ e)

@@ -18,7 +18,7 @@ pub record Told (Inner : Type 0) : Type 0 where
   pub counts : Counts
 
 -- ANY LINK AT ALL: what it may be inside, a fresh one, a step for any event with any counts lent, and how many bytes it shows to be held. The demands are said
--- of any such machine, and look at nothing inside it.
+-- of any such machine, and look at nothing inside it; they only say when an event leaves it as it was, or as another would.
 pub record Machine : Type 1 where
   pub Inner : Type 0
   pub fresh : Inner
