@@ -4,8 +4,8 @@ use Rattle.keys.proofs.Eighteen.{good-pairs}
 use Rattle.timing.proofs.P2Table.{rule}
 use Rattle.timing.proofs.RoundTrip.{codes-back, windows-back, codes-exactly, no-codes}
 use Rattle.timing.proofs.Sets.{normal-codes, extended-codes}
-use Rattle.frame.proofs.RoundTrip.{frame-reads-back, built-reads-back}
-use Rattle.frame.proofs.WellRead.{reads-exactly, read-sums-up}
+use Rattle.frame.proofs.RoundTrip.{built-reads-back}
+use Rattle.frame.proofs.WellRead.{announced-reads-back, reads-exactly, read-sums-up}
 use Rattle.demands.specs.DemandTwo.{DemandTwo, Foundation}
 use Rattle.demands.specs.Ours.{ours}
 use Rattle.demands.specs.OurLink.{ourLink}
@@ -31,7 +31,7 @@ foundation = record {
   keys = good-pairs;
   built = built-reads-back;
   placed = built-placed;
-  announced = frame-reads-back;
+  announced = announced-reads-back;
   read = reads-exactly;
   sums = read-sums-up;
   p2max = rule;

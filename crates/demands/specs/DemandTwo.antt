@@ -23,11 +23,8 @@ use Rattle.frame.specs.Read.{readOf}
 use Rattle.frame.specs.declared.Plan.{Plan}
 use Rattle.frame.specs.declared.Built.{Built}
 use Rattle.frame.specs.Layout.{SumsUp}
-use Rattle.frame.specs.Announced.{Announced, IsFrame}
+use Rattle.frame.specs.Announced.{IsFrame}
 use Rattle.frame.specs.ReadsBack.{ReadsBack, BuiltReadsBack}
-use Rattle.frame.specs.Layout.{frameOf}
-use Rattle.frame.specs.declared.Place.{Place}
-use Rattle.keys.specs.declared.Form.{Form}
 use Rattle.events.specs.declared.Kind.the-variants.{Byte, Drop}
 use Rattle.events.specs.declared.Event.{Event}
 use Rattle.reports.specs.declared.Report.{Report}
@@ -58,8 +55,7 @@ pub record Foundation : Type 0 where
       → LengthPlaced (p .kb1) (length bytes) (take (r .len) after)
   -- .. and so reads every frame that good key bytes announce, also such as `build` does not make (a length below 64 in the extra byte, where it could stand
   -- in the format byte)
-  pub announced : (kb1 kb2 : ℕ) (form : Form) (place : Place) (target source : ℕ) (bytes : List ℕ) → Announced kb1 kb2 form place (length bytes)
-      → ReadsBack kb1 kb2 form target source bytes (frameOf form place target source bytes)
+  pub announced : (kb1 kb2 : ℕ) (s : List ℕ) (f : IsFrame kb1 kb2 s) → ReadsBack kb1 kb2 (f .form) (f .target) (f .source) (f .bytes) s
   -- `read` takes exactly these, and their last byte is the sum of all before it
   pub read : (kb1 kb2 : ℕ) (s : List ℕ) → ((i : ℕ) → getD s i 0 < 256) → (readOf kb1 kb2 s .no ≡ taken) ↔ IsFrame kb1 kb2 s
   pub sums : (kb1 kb2 : ℕ) (s : List ℕ) → ((i : ℕ) → getD s i 0 < 256) → readOf kb1 kb2 s .no ≡ taken → SumsUp s

@@ -19,6 +19,7 @@ use Rattle.keys.specs.declared.Form.the-variants.{Plain, Physical, Functional, 
 use Rattle.frame.specs.Layout.{formNumbered, numberOf, topBits, formatForm, lowBits, addressesOf, extraOf, addressCount, extraCount, headSize, headOf, checksumOf, bodyOf, frameOf, SumsUp, carried, isNowhere}
 use Rattle.frame.specs.Read.{formatByte, placeRead, lengthRead, lengthOf, notLaid, laidOf, notRead, judged, readOf, dataOf}
 use Rattle.frame.specs.Announced.{Placed, Announced, IsFrame}
+use Rattle.frame.specs.ReadsBack.{ReadsBack}
 use Rattle.frame.specs.declared.Place.{Place}
 use Rattle.frame.specs.declared.Place.the-variants.{Format, Extra, Nowhere}
 use Rattle.frame.specs.declared.Laid.{Laid}
@@ -262,3 +263,9 @@ reads-exactly kb1 kb2 s byte = (
       ap (λ (l : List ℕ). readOf kb1 kb2 l .no) (f .whole)
       ∙ ap (λ (r : Reading). r .no) (frame-reads-back kb1 kb2 (f .form) (f .place) (f .target) (f .source) (f .bytes) (f .announced) .reading),
 )
+
+-- EVERY SLICE THAT IS AN ANNOUNCED FRAME READS BACK
+pub announced-reads-back : (kb1 kb2 : ℕ) (s : List ℕ) (f : IsFrame kb1 kb2 s) → ReadsBack kb1 kb2 (f .form) (f .target) (f .source) (f .bytes) s
+announced-reads-back kb1 kb2 s f =
+    subst (ReadsBack kb1 kb2 (f .form) (f .target) (f .source) (f .bytes)) (sym (f .whole))
+    (frame-reads-back kb1 kb2 (f .form) (f .place) (f .target) (f .source) (f .bytes) (f .announced))
