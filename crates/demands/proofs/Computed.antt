@@ -188,4 +188,24 @@ unfolding
     formatForm placeAnnounced hasExtra begunMessage partAfterFormat afterAddresses laterReason isSum grown withData withSeven afterData holding talking
     framed asked answered timed settled damaged requestOf isExactly asksCodes windowsAfter isEffective windowsFor codesIn ifAllowed decodedOf isAllowed
     windowsBy minOf p2MaxOf p2Half p3MaxOf isBelow spent requestAfter sameWindows lossReason slowStart complement ruleOf heldIn namedIn
-computed = record { of-unchanged = refl; of-idling = refl; of-inventing = refl; of-behind = refl; of-twice = refl; refuses-unknown = refl; of-forgetting = refl; takes-lent = refl; of-possessive = refl; own-reported = refl; of-disordered = refl; of-repeating = refl; of-moving = refl; of-shifting = refl; ours-taken = refl; ours-fair = refl; ours-connects = refl; ours-cut-off = refl; ours-over = refl }
+computed = record {
+  of-unchanged = refl;
+  of-idling = refl;
+  of-inventing = refl;
+  of-behind = refl;
+  of-twice = refl;
+  refuses-unknown = refl;
+  of-forgetting = refl;
+  takes-lent = refl;
+  of-possessive = refl;
+  own-reported = refl;
+  of-disordered = refl;
+  of-repeating = refl;
+  of-moving = refl;
+  of-shifting = refl;
+  ours-taken = refl;
+  ours-fair = refl;
+  ours-connects = refl;
+  ours-cut-off = refl;
+  ours-over = refl;
+}

@@ -127,10 +127,12 @@ module _ (n h : ℕ) where
       (λ _. by-test (Fine r) (isStarting (r .phase .state))
       (λ c. record { on = λ z. absurd (false≢true z); off = λ z. refl; says = λ z q. omega (arith, k .heard, k .named c) }) (λ _. still-fine r))
 
-  leaving-says : (r : Run) (reason : ℕ) → eqb (leaving (r .phase) reason .number) 0 ≡ false → Four (reportOf r (leaving (r .phase) reason .number) (leaving (r .phase) reason .reason))
+  leaving-says : (r : Run) (reason : ℕ) → eqb (leaving (r .phase) reason .number) 0 ≡ false
+      → Four (reportOf r (leaving (r .phase) reason .number) (leaving (r .phase) reason .reason))
   unfolding leaving reportOf Four
   leaving-says r reason =
-      by-test (λ (m : Move). eqb (m .number) 0 ≡ false → Four (reportOf r (m .number) (m .reason))) (isQuiet (r .phase .state)) (λ _ z q. absurd (omega arith)) (λ _ z. absurd (true≢false z))
+      by-test (λ (m : Move). eqb (m .number) 0 ≡ false → Four (reportOf r (m .number) (m .reason))) (isQuiet (r .phase .state))
+      (λ _ z q. absurd (omega arith)) (λ _ z. absurd (true≢false z))
 
   passed-four : (r : Run) (mark start : Micros) → Keeps r → Each Four (passedTells r mark start) × Keeps (passed r mark start)
   unfolding passed passedTells
@@ -150,7 +152,9 @@ module _ (n h : ℕ) where
       let k3 = keeps-on r2 m3 k2 f3 in
       let m4 = afterWindow (r3 .phase) mark start in
       let f4 = window-fine r3 mark start k3 in (
-        each-both Four _ (tells r3 m4) (each-both Four _ (tells r2 m3) (each-both Four (tells r m1) (tells r1 m2) (each-of r m1 (f1 .says)) (each-of r1 m2 (f2 .says))) (each-of r2 m3 (f3 .says)))
+        each-both Four _ (tells r3 m4)
+            (each-both Four _ (tells r2 m3) (each-both Four (tells r m1) (tells r1 m2) (each-of r m1 (f1 .says)) (each-of r1 m2 (f2 .says)))
+            (each-of r2 m3 (f3 .says)))
             (each-of r3 m4 (f4 .says)),
         keeps-on r3 m4 k3 f4,
       )
@@ -160,7 +164,8 @@ module _ (n h : ℕ) where
   shut-four r reason k =
       let m1 = closing (r .phase) in
       let r1 = moved r m1 in
-      each-both Four (tells r m1) (tells r1 (leaving (r1 .phase) reason)) (each-of r m1 (closing-fine r k .says)) (each-of r1 (leaving (r1 .phase) reason) (leaving-says r1 reason))
+      let m2 = leaving (r1 .phase) reason in
+      each-both Four (tells r m1) (tells r1 m2) (each-of r m1 (closing-fine r k .says)) (each-of r1 m2 (leaving-says r1 reason))
 
   Said : Run → Move → Type 0
   Said r m = eqb (m .number) 0 ≡ false → Four (reportOf r (m .number) (m .reason))
@@ -175,7 +180,8 @@ module _ (n h : ℕ) where
       by-test (Said q) (not (isIdle mark fall)) (λ _ z w. absurd (omega arith))
       (λ _. by-test (Said q) (isGoodLow fall rise) (λ _ z. absurd (true≢false z)) (λ _ z w. omega arith))
 
-  judged-joins : (p : Phase) (side : Side) (v : ℕ) (gap : Micros) (k : ℕ) → not (eqb (judged (p .start) side v gap) noReason) ≡ true → failedBytes (judged (p .start) side v gap) k ≡ k + 1
+  judged-joins : (p : Phase) (side : Side) (v : ℕ) (gap : Micros) (k : ℕ) → not (eqb (judged (p .start) side v gap) noReason) ≡ true
+      → failedBytes (judged (p .start) side v gap) k ≡ k + 1
   unfolding judged failedBytes
   judged-joins p side v gap k =
       by-test (λ (x : ℕ). not (eqb x noReason) ≡ true → failedBytes x k ≡ k + 1) (not (isFrom (p .start) side)) (λ _ z. refl)
@@ -206,7 +212,8 @@ module _ (n h : ℕ) where
   unfolding Said afterStop reportOf Four
   stop-says q p = by-test (Said q) (isQuiet (p .state) && isStopped (p .request)) (λ _ z w. absurd (omega arith)) (λ _ z. absurd (true≢false z))
 
-  byte-says : (st : State) (q : Run) (p : Phase) → q .heard ≡ h + 1 → (isStarting st ≡ true → q .named ≡ n) → n ≤ h → (side : Side) (v : ℕ) (mark start : Micros) → Said q (byteIn st p side v mark start)
+  byte-says : (st : State) (q : Run) (p : Phase) → q .heard ≡ h + 1 → (isStarting st ≡ true → q .named ≡ n) → n ≤ h
+      → (side : Side) (v : ℕ) (mark start : Micros) → Said q (byteIn st p side v mark start)
   unfolding isStarting
   byte-says Down q p e f o side v mark start = outside-says q
   byte-says Starting q p e f o side v mark start = start-says q p e (f refl) o side v (sinceOrigin p mark start)

@@ -63,5 +63,6 @@ module _ (es : Log) (c : Counts) (e : Event) (q : answerWith ours es c e .no ≡
       let t = handled-tiles (after ours es) (takenOf es) _ e (kept-of es) (sym (history-numbers es e) ∙ own-taken) in
       let small = not-above-small c (λ h. numbered-behind es c e .taken .0 q .3 (inr h)) in
       let brings : List Report → Counts = λ rs. added c (countsOf (if isByte (e .kind) then e .value ∷ [] else []) rs) in
-      ap (λ (x : Answer). countsAfter c x e) a ∙ counted-lent c (isByte (e .kind)) (e .value) (handled l e .reports) (l .named) (handled l e .named) small (t .tiled) (t .few)
+      ap (λ (x : Answer). countsAfter c x e) a
+      ∙ counted-lent c (isByte (e .kind)) (e .value) (handled l e .reports) (l .named) (handled l e .named) small (t .tiled) (t .few)
       ∙ ap (λ (x : Answer). brings (listed (x .reports))) (sym a)
