@@ -1,11 +1,10 @@
--- Each report of an event is one of the eight, with a reason where it has one, at the event's end, and names as many bytes as its number allows. A report
--- 4 is made only in an initialization or at a wake-up of a wrong low, reports 1 and 2 only in a session.
+-- Each report of an event is one of the eight, with a reason where it has one, at the event's end, and names as many bytes as its number allows.
 -- Assumes nothing.
 use Prim.Native.Nat.{ℕ, _+_, _≤_, _<_}
 use mathlib.Core.Bool.{Bool, true, false, not, _&&_, _||_, false≢true}
 use mathlib.Core.List.{List, [], _∷_, _++_}
 use mathlib.Core.Path.{_≡_, refl, sym, _∙_, subst}
-use mathlib.Core.Logic.{_⊎_, inl, inr, ⊎-elim}
+use mathlib.Core.Logic.{_⊎_, inl, inr}
 use native.Mathlib.Omega.{arith}
 use borrow.Author.Tests.{eqb-true, eqb-false, not-true}
 use lib.Dec.{eqb}
@@ -35,7 +34,7 @@ use Rattle.talk.specs.declared.Reply.{Reply}
 use Rattle.talk.specs.declared.Part.{Part}
 use Rattle.talk.specs.declared.Part.the-variants.{Target, Source, Length, Data, Sum}
 use Rattle.talk.specs.declared.Message.{Message}
-use Rattle.phases.specs.Phases.{isStarting, isQuiet, isHeld, isOpen, isConnected, down, starting, connected}
+use Rattle.phases.specs.Phases.{isStarting, isQuiet, isHeld, isOpen, down, starting, connected}
 use Rattle.phases.specs.Phases.{talking, holding, damaged, settled, timed, asked, answered, framed}
 use Rattle.phases.specs.declared.State.{State}
 use Rattle.phases.specs.declared.State.the-variants.{Down, Starting, Quiet, Held, Damage}
@@ -50,10 +49,8 @@ use Rattle.reports.specs.declared.Run.{Run}
 use Rattle.link.specs.Handling.{freshLink, passed, shut, hearing, byteHeard, actedBy, acted, begun, handled, linkAfter}
 use Rattle.link.specs.declared.Link.{Link}
 use Rattle.link.specs.Telling.{tells, passedTells, shutTells, byteTells, actedTells, handledTells}
-use Rattle.demands.specs.Logs.{Log, none, _▷_, numberAfter, takenOf, InBytes}
-use Rattle.demands.specs.Histories.{after, reportsTo, Says, Among}
-use Rattle.demands.specs.Sessions.{SomeSession}
-use Rattle.demands.specs.Endings.{Starting as InStart, WrongLow}
+use Rattle.demands.specs.Logs.{Log, none, _▷_, numberAfter, takenOf}
+use Rattle.demands.specs.Histories.{after, reportsTo, Among}
 use Rattle.demands.specs.Each.{Formed}
 use Rattle.demands.proofs.Holding.{Holds, holds-order, holds-some, Goes}
 use Rattle.demands.proofs.Holding.{silence-goes, p2-goes, p3-goes, window-goes, closing-goes, leaving-goes, slow-goes, fast-goes, byte-goes, stop-goes}
@@ -61,12 +58,7 @@ use Rattle.demands.proofs.Tiling.{moved-flows, moved-phase, HoldsIn, pa
 use Rattle.demands.proofs.Invariant.{kept-of}
 use Rattle.demands.proofs.Exactly.{link-taken, link-refused}
 use Rattle.demands.proofs.Saying.{Each, each-none, each-one, each-both}
-use Rattle.demands.proofs.Session.{session-exactly}
-use Rattle.demands.proofs.Unconnected.{none-unconnected}
-use Rattle.demands.proofs.Finding.{says-speaks, reports-made, taken-by-report}
-use Rattle.demands.proofs.Causes.{Fails, runs-out, closes, low, wrong, of-fail, was-starting, leftBy, left-at, says-caused}
-use Rattle.demands.proofs.Leaving.{wrong-low, mark-idle}
-use Rattle.demands.proofs.Initializing.{starting-exactly}
+use Rattle.demands.proofs.Finding.{reports-made, taken-by-report}
 use Rattle.demands.specs.Ours.{ours}
 
 -- ---- numbers that are one of several
@@ -569,29 +561,3 @@ worded-of (es ▷ e) = worded-more es e (worded-of es)
 -- EACH REPORT
 pub each-formed : (es : Log) (e : Event) (r : Report) → Among r (reportsTo ours es e) → Formed e r
 each-formed es e r i = good-of es e (worded-of es) .each r (subst (Among r) (reports-made es e (taken-by-report es e r i)) i)
-
--- A REPORT 4 only in an initialization, or at a wake-up of a wrong low
-pub failed-only : (es : Log) (e : Event) → Says failedReport (reportsTo ours es e) → InStart ours es ⊎ WrongLow (takenOf es) e
-failed-only es e s = by-cause (of-fail _ _ _ e (says-caused es e failedReport s .caused .cause) refl)
-  where
-    started : isStarting (leftBy (after ours es .link) e .phase .state) ≡ true → InStart ours es
-    started i = starting-exactly es .0 (was-starting _ _ (e .start) _ (left-at es e) i .0)
-
-    by-cause : {k : ℕ} → Fails (after ours es .link .phase) (leftBy (after ours es .link) e .phase) (after ours es .link .mark) e k
-        → InStart ours es ⊎ WrongLow (takenOf es) e
-    by-cause (runs-out o) = inl (starting-exactly es .0 (o .0))
-    by-cause (closes i c) = inl (started i)
-    by-cause (low w i g) = inr (w, mark-idle es e .0 i, wrong-low e .0 g)
-    by-cause (wrong i b m) = inl (started i)
-
--- REPORTS 1 AND 2 only in a session
-pub frames-only : (es : Log) (e : Event) → InBytes es
-    → Says frameReport (reportsTo ours es e) ⊎ Says damageReport (reportsTo ours es e) → SomeSession ours es
-frames-only es e b x = session-exactly es b .0 (by-state (isConnected (after ours es .link .phase .state)) refl)
-  where
-    by-state : (c : Bool) → isConnected (after ours es .link .phase .state) ≡ c → isConnected (after ours es .link .phase .state) ≡ true
-    by-state true c = c
-    by-state false c =
-        let f = none-unconnected es e c in
-        ⊎-elim (λ s. let y = says-speaks frameReport (reportsTo ours es e) s in absurd (f (y .report) (y .made) .0 (y .number-is)))
-        (λ s. let y = says-speaks damageReport (reportsTo ours es e) s in absurd (f (y .report) (y .made) .1 (y .number-is))) x

@@ -1,6 +1,6 @@
 -- An initialization under way fails exactly as document 01 says: by its window's end, by the side, the start and the value of a byte, in that order; a
 -- byte that is right lets it go on, and the last one connects. For the link is at the stage that the start and the bytes behind it lead to, and the place
--- that is due is the one that this stage means. Outside of one, a report 4 is of a wrong low only; and its reasons are 1 to 6 anywhere.
+-- that is due is the one that this stage means. Outside of one, a report 4 is of a wrong low only.
 -- Assumes nothing.
 use Prim.Native.Nat.{ℕ, _≤_, _<_}
 use mathlib.Core.Bool.{Bool, true, false, not, false≢true}
@@ -401,24 +401,3 @@ low-only es e n (wrong s b m) = absurd (n (starting-exactly es .0 (was-starting 
 
 pub never-else : (es : Log) (e : Event) (k : ℕ) → Not (Starting ours es) → Tells failedReport k (reportsTo ours es e) → k ≡ wrongLow
 never-else es e k n t = low-only es e n (of-fail _ _ _ e (tells-caused es e failedReport k t .cause) refl)
-
--- ---- the reasons of a report 4, anywhere
-verdict-most : (a b c : Bool) → verdict a b c ≤ 6
-verdict-most false b c = omega arith
-verdict-most true true c = omega arith
-verdict-most true false true = omega arith
-verdict-most true false false = omega arith
-
-judged-most : (p : Phase) (mark : Micros) (e : Event) → judged (p .start) (e .side) (e .value) (sinceOrigin p mark (e .start)) ≤ 6
-unfolding judged
-judged-most p mark e =
-    verdict-most (isFrom (p .start) (e .side)) (isEarly (p .start) (sinceOrigin p mark (e .start))) (fits (p .start) (e .value))
-
-reasons-by : (p q : Phase) (mark : Micros) (e : Event) {k : ℕ} → FailsBy p q mark e k → (1 ≤ k) × (k ≤ 6)
-reasons-by p q mark e (runs-out o) = (omega arith, omega arith)
-reasons-by p q mark e (closes s c) = (omega arith, omega arith)
-reasons-by p q mark e (low w i l) = (omega arith, omega arith)
-reasons-by p q mark e (wrong s b m) = (omega (arith, m), judged-most q mark e)
-
-pub fails-reasons : (es : Log) (e : Event) (k : ℕ) → Tells failedReport k (reportsTo ours es e) → (1 ≤ k) × (k ≤ 6)
-fails-reasons es e k t = reasons-by _ _ _ e (of-fail _ _ _ e (tells-caused es e failedReport k t .cause) refl)

@@ -18,7 +18,7 @@ use Rattle.demands.specs.Frames.{addressesIn, lowSix, LengthPlaced}
 
 -- A frame with the format byte of this form has as many addresses as the form.
 addresses-in : (form : Form) (low : ℕ) (frame : List ℕ) → low ≤ 63 → getD frame 0 0 ≡ topBits form + low → addressesIn frame ≡ addressCount form
-unfolding topBits formatForm addressCount
+unfolding formatForm addressCount
 addresses-in Plain low frame h e = let m : getD frame 0 0 / 64 ≡ 0 = omega arith in rw m
 addresses-in Foreign low frame h e = let m : getD frame 0 0 / 64 ≡ 1 = omega arith in rw m
 addresses-in Physical low frame h e = let m : getD frame 0 0 / 64 ≡ 2 = omega arith in rw m

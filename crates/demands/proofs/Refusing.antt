@@ -12,13 +12,12 @@ use lib.Dec.{eqb, leb, ltb}
 use lib.ListN.{length, getD, take}
 use Rattle.base.specs.Choice.{if_then_else_}
 use Rattle.base.specs.Numbers.{taken, badKeys, badForm, badLength, badChecksum}
-use Rattle.base.proofs.Tests.{and-split}
 use Rattle.units.specs.Units.{isEarlier}
 use Rattle.units.specs.declared.Micros.{Micros}
 use Rattle.keys.specs.Keys.{goodPair, takesForm, lengthInFormat, extraLength, noAddresses, withAddresses, isExtended}
 use Rattle.keys.specs.declared.Form.{Form}
 use Rattle.keys.specs.declared.Form.the-variants.{Plain, Physical, Functional, Foreign}
-use Rattle.timing.specs.Timing.{isUnlimited, isBelow, p4max, isAllowed, minOf, p2Half, p2MaxOf, windowsBy, notDecoded, decodedOf}
+use Rattle.timing.specs.Timing.{isUnlimited, isBelow, p4max, isAllowed, windowsBy, notDecoded, decodedOf}
 use Rattle.timing.specs.Timing.{codesBy, sameWindows, notEncoded, encodedOf}
 use Rattle.timing.specs.declared.Limit.{Limit}
 use Rattle.timing.specs.declared.Windows.{Windows}
@@ -26,7 +25,7 @@ use Rattle.timing.specs.declared.Codes.{Codes}
 use Rattle.timing.specs.declared.Decoded.{Decoded}
 use Rattle.timing.specs.declared.Encoded.{Encoded}
 use Rattle.timing.specs.Coded.{HasCodes}
-use Rattle.timing.proofs.RoundTrip.{encoded-test, codes-exactly, no-codes}
+use Rattle.timing.proofs.RoundTrip.{codes-exactly, no-codes}
 use Rattle.frame.specs.Layout.{formNumbered, formatForm, addressCount, extraCount, headSize, total, checksumOf, isNowhere}
 use Rattle.frame.specs.Build.{placeFor, planned, sizeOf, buildNo, notBuilt, builtOf, bufferAfter, Builds}
 use Rattle.frame.specs.Read.{formatByte, placeRead, lengthRead, lengthOf, notLaid, laidOf, notRead, judged, readOf}
@@ -493,49 +492,22 @@ ten-by : {A P : Type 0} (number : A → ℕ) (b : Bool) (x y : A) → number x �
 ten-by number true x y ex ey p = rw ex (misses 0 10 refl (λ f. f (p .0 refl)), meets 0 (p .0 refl))
 ten-by number false x y ex ey p = rw ey (meets 10 (off p), misses 10 0 refl (off p))
 
-zero-or-ten : {A : Type 0} (number : A → ℕ) (b : Bool) (x y : A) → number x ≡ 0 → number y ≡ 10
-    → (number (if b then x else y) ≡ 0) ⊎ (number (if b then x else y) ≡ 10)
-zero-or-ten number true x y ex ey = inl ex
-zero-or-ten number false x y ex ey = inr ey
-
 second-by : {A : Type 0} (number : A → ℕ) (b : Bool) (x y : A) → number x ≡ 0 → Not (number (if b then x else y) ≡ 0)
     → (if b then x else y) ≡ y
 second-by number true x y ex h = absurd (h ex)
 second-by number false x y ex h = refl
 
--- THE NUMBER OF TIMING CODES: 10 exactly when the windows that they stand for are not allowed, and 0 exactly when they are. There is no other number.
+-- THE NUMBER OF TIMING CODES: 10 exactly when the windows that they stand for are not allowed, and 0 exactly when they are.
 pub decode-numbered : (c : Codes) → ((decodedOf c .no ≡ 10) ↔ Not (Allowed (windowsBy c))) × ((decodedOf c .no ≡ 0) ↔ Allowed (windowsBy c))
 unfolding decodedOf
 decode-numbered c = ten-by (λ (d : Decoded). d .no) (isAllowed (windowsBy c)) _ _ refl refl (allowed-exactly (windowsBy c))
 
-pub decode-no-other : (c : Codes) → (decodedOf c .no ≡ 0) ⊎ (decodedOf c .no ≡ 10)
-unfolding decodedOf
-decode-no-other c = zero-or-ten (λ (d : Decoded). d .no) (isAllowed (windowsBy c)) _ _ refl refl
-
-none-below-zero : (m : Micros) → Not (Below m (p2MaxOf 0))
-unfolding p2MaxOf p2Half
-none-below-zero m (inl e) = let q = ap (λ (l : Limit). l .0 .0) e in omega arith
-none-below-zero m (inr h) = omega arith
-
--- "P2 max: .. 00 not allowed": it is a max of 0, and no min is below that.
-pub p2-max-zero : (c : Codes) → c .p2max ≡ 0 → decodedOf c .no ≡ 10
-unfolding windowsBy
-p2-max-zero c e = decode-numbered c .0 .1 (λ a. none-below-zero (minOf (c .p2min)) (subst (λ (k : ℕ). Below (minOf (c .p2min)) (p2MaxOf k)) e (a .p2)))
-
--- THE NUMBER OF WINDOWS: 10 exactly when no allowed codes stand for them, "a window no code gives is 10", and 0 exactly when some do. There is no
--- other number, and windows that are not allowed have none.
+-- THE NUMBER OF WINDOWS: 10 exactly when no allowed codes stand for them, "a window no code gives is 10", and 0 exactly when some do.
 pub encode-numbered : (w : Windows) → ((encodedOf w .no ≡ 10) ↔ Not (HasCodes w)) × ((encodedOf w .no ≡ 0) ↔ HasCodes w)
 encode-numbered w = (
   (λ e h. absurd (omega (arith, codes-exactly w .1 h)), λ f. ap (λ (r : Encoded). r .no) (no-codes w f)),
   codes-exactly w,
 )
-
-pub encode-no-other : (w : Windows) → (encodedOf w .no ≡ 0) ⊎ (encodedOf w .no ≡ 10)
-unfolding encodedOf
-encode-no-other w = zero-or-ten (λ (d : Encoded). d .no) (isAllowed w && sameWindows (windowsBy (codesBy w)) w) _ _ refl refl
-
-pub encode-allowed : (w : Windows) → encodedOf w .no ≡ 0 → Allowed w
-encode-allowed w e = allowed-exactly w .0 (and-split (isAllowed w) (sameWindows (windowsBy (codesBy w)) w) (encoded-test w e) .0)
 
 -- BESIDE A REFUSAL OF CODES OR WINDOWS every other number is 0.
 pub decode-zeros : (c : Codes) → Not (decodedOf c .no ≡ 0) → decodedOf c ≡ notDecoded

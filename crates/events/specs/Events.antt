@@ -2,6 +2,7 @@
 -- Assumes nothing.
 use Prim.Native.Nat.{ℕ}
 use mathlib.Core.Bool.{Bool, true, false, _&&_, _||_}
+use mathlib.Core.Option.{Option, none, some}
 use lib.Dec.{eqb}
 use Rattle.base.specs.Choice.{if_then_else_}
 use Rattle.base.specs.Numbers.{taken, unknown, tooLate, outOfOrder, tooMany}
@@ -15,18 +16,40 @@ use Rattle.events.specs.declared.Event.{Event}
 
 -- "Events: A address (value, start, end), W wake-up (fall, rise), B byte (side t tester or e unit, value, start, end), T tick (time), D drop (time)."
 -- A wake-up's fall stands as its start and its rise as its end; the time of a tick or a drop stands as both. What a kind does not have is not
--- looked at. The kind by its letter, and `Other` for what is none of these:
+-- looked at. The letter of each kind; `Other` is what has none:
+abbrev pub kindLetter : Kind → Option ℕ
+kindLetter Address = some 0x41
+kindLetter WakeUp = some 0x57
+kindLetter Byte = some 0x42
+kindLetter Tick = some 0x54
+kindLetter Drop = some 0x44
+kindLetter Other = none
+
+-- "side t tester or e unit"; `Nobody` has no letter
+abbrev pub sideLetter : Side → Option ℕ
+sideLetter Tester = some 0x74
+sideLetter Unit = some 0x65
+sideLetter Nobody = none
+
+-- whether a byte is this letter
+abbrev pub isThat : Option ℕ → ℕ → Bool
+isThat none b = false
+isThat (some letter) b = eqb b letter
+
+-- the kind whose letter it is, and `Other` where it is no kind's
 unfoldable pub kindBy : ℕ → Kind
 kindBy letter =
-    if eqb letter 0x41 then Address else
-    if eqb letter 0x57 then WakeUp else
-    if eqb letter 0x42 then Byte else
-    if eqb letter 0x54 then Tick else
-    if eqb letter 0x44 then Drop else Other
+    if isThat (kindLetter Address) letter then Address else
+    if isThat (kindLetter WakeUp) letter then WakeUp else
+    if isThat (kindLetter Byte) letter then Byte else
+    if isThat (kindLetter Tick) letter then Tick else
+    if isThat (kindLetter Drop) letter then Drop else Other
 
--- the side by its letter, and `Nobody` for what is none
+-- the side whose letter it is, and `Nobody` where it is neither's
 unfoldable pub sideBy : ℕ → Side
-sideBy letter = if eqb letter 0x74 then Tester else if eqb letter 0x65 then Unit else Nobody
+sideBy letter =
+    if isThat (sideLetter Tester) letter then Tester else
+    if isThat (sideLetter Unit) letter then Unit else Nobody
 
 unfoldable pub isOther : Kind → Bool
 isOther Address = false

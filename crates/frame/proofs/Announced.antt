@@ -1,19 +1,17 @@
 -- The tests of building, and what they ask: where none refuses, the frame that is planned is announced and has room. Assumes nothing.
-use mathlib.Core.Path.{_≡_, refl, sym, ap, _∙_}
+use mathlib.Core.Path.{_≡_, refl, sym, _∙_}
 use mathlib.Core.Bool.{Bool, true, false, _&&_, not, true≢false}
-use mathlib.Core.List.{List}
-use Prim.Native.Nat.{ℕ, _+_, _≤_}
+use Prim.Native.Nat.{ℕ, _≤_}
 use native.Mathlib.Omega.{arith}
-use borrow.Author.Tests.{leb-true, le-leb, ltb-false, eq-eqb, ne-eqb}
+use borrow.Author.Tests.{leb-true, le-leb, ltb-false}
 use lib.Dec.{leb, ltb}
-use lib.ListN.{length}
 use Rattle.base.specs.Choice.{if_then_else_}
 use Rattle.base.specs.Numbers.{taken, badKeys, badForm, badLength, noRoom}
 use Rattle.base.proofs.Tests.{and-split}
 use Rattle.keys.specs.Keys.{goodPair, takesForm, lengthInFormat, extraLength}
 use Rattle.keys.specs.declared.Form.{Form}
-use Rattle.frame.specs.Layout.{formNumbered, headSize, frameOf, isNowhere}
-use Rattle.frame.specs.Build.{placeFor, planned, sizeOf, buildNo, notBuilt, builtOf, over, bufferAfter, Builds, Writable}
+use Rattle.frame.specs.Layout.{formNumbered, isNowhere}
+use Rattle.frame.specs.Build.{placeFor, sizeOf, buildNo, Writable}
 use Rattle.frame.specs.Announced.{Placed, Announced}
 use Rattle.frame.specs.declared.Place.{Place}
 use Rattle.frame.specs.declared.Place.the-variants.{Format, Extra, Nowhere}
@@ -107,24 +105,3 @@ writable p n room k form place ek e ef ep =
       short = short-format (p .kb1) (placeFor (p .kb1) n) n (r .announced .placed);
       fits = r .roomy;
     })
-
--- the frame that is planned
-planned-is : (p : Plan) (bytes : List ℕ) (form : Form) (place : Place) → form ≡ formNumbered (p .form) → place ≡ placeFor (p .kb1) (length bytes)
-    → frameOf form place (p .target) (p .source) bytes ≡ planned p bytes
-unfolding planned
-planned-is p bytes form place ef ep = λ i. frameOf (ef i) (ep i) (p .target) (p .source) bytes
-
--- what `build` promises, by its two returns, where its number is k
-module _ (p : Plan) (bytes out : List ℕ) (k : ℕ) (ek : k ≡ buildNo p (length bytes) (length out)) where
-  pub builds-refused : (k ≡ taken → ⊥) → Builds p bytes out (notBuilt k) out
-  unfolding builtOf bufferAfter
-  builds-refused h = record { answer = rw (← ek, ne-eqb k 0 h); memory = rw (← ek, ne-eqb k 0 h) }
-
-  pub builds-done : (form : Form) (place : Place) (len : ℕ) (after : List ℕ) → k ≡ taken → form ≡ formNumbered (p .form)
-      → place ≡ placeFor (p .kb1) (length bytes) → len ≡ headSize form place + length bytes + 1
-      → after ≡ over (frameOf form place (p .target) (p .source) bytes) out → Builds p bytes out (record { no = taken; len = len }) after
-  unfolding builtOf bufferAfter sizeOf
-  builds-done form place len after e ef ep el em = record {
-    answer = rw (← ek, eq-eqb k 0 e, ← ef, ← ep, el);
-    memory = em ∙ ap (λ (f : List ℕ). over f out) (planned-is p bytes form place ef ep) ∙ rw (← ek, eq-eqb k 0 e);
-  }

@@ -89,7 +89,7 @@ frame-sums-up form place t s d =
 
 -- a form that key bytes take has its number back
 number-back : (kb1 n : ℕ) → takesForm kb1 (formNumbered n) ≡ true → numberOf (formNumbered n) ≡ n
-unfolding formNumbered numberOf takesForm
+unfolding formNumbered takesForm
 number-back kb1 n h = by-number (eqb n 0) (eqb n 1) (eqb n 2) refl refl refl h
   where
     by-number : (a b c : Bool) → eqb n 0 ≡ a → eqb n 1 ≡ b → eqb n 2 ≡ c
@@ -114,7 +114,14 @@ pub built-taken : (p : Plan) (bytes out : List ℕ) (r : Built) (after : List �
     → buildNo p (length bytes) (length out) ≡ taken
 built-taken p bytes out r after b e = sym (built-no p (length bytes) (length out)) ∙ ap (λ (k : Built). k .no) (sym (b .answer)) ∙ e
 
--- WHAT `build` BUILDS READS BACK
+-- WHAT IS PLANNED READS BACK, where key bytes announce it
+pub planned-reads-back : (p : Plan) (bytes : List ℕ)
+    → Announced (p .kb1) (p .kb2) (formNumbered (p .form)) (placeFor (p .kb1) (length bytes)) (length bytes)
+    → ReadsBack (p .kb1) (p .kb2) (formNumbered (p .form)) (p .target) (p .source) bytes (planned p bytes)
+unfolding planned
+planned-reads-back p bytes a = frame-reads-back (p .kb1) (p .kb2) (formNumbered (p .form)) (placeFor (p .kb1) (length bytes)) (p .target) (p .source) bytes a
+
+-- and so does WHAT `build` BUILDS
 pub built-reads-back : (p : Plan) (bytes out : List ℕ) (r : Built) (after : List ℕ) → Builds p bytes out r after → r .no ≡ taken → BuiltReadsBack p bytes out r after
 unfolding builtOf bufferAfter over planned sizeOf
 built-reads-back p bytes out r after b e =
@@ -128,7 +135,7 @@ built-reads-back p bytes out r after b e =
           (sym (frame-length (formNumbered (p .form)) (placeFor (p .kb1) n) (p .target) (p .source) bytes));
       memory = b .memory ∙ rw (eq-eqb (buildNo p n (length out)) taken no);
       form-number = number-back (p .kb1) (p .form) (x .announced .takes);
-      reads-back = frame-reads-back (p .kb1) (p .kb2) (formNumbered (p .form)) (placeFor (p .kb1) n) (p .target) (p .source) bytes (x .announced);
+      reads-back = planned-reads-back p bytes (x .announced);
     }
 
 -- .. and is the frame that is planned: so many bytes at the front

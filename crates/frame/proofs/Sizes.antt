@@ -38,7 +38,6 @@ extra-le Extra = lit≤ tt
 extra-le Nowhere = lit≤ tt
 
 pub top-le : (form : Form) → topBits form ≤ 192
-unfolding topBits
 top-le Plain = lit≤ tt
 top-le Physical = lit≤ tt
 top-le Functional = lit≤ tt

@@ -32,7 +32,7 @@ pub record Starts (kb1 : ℕ) (S : List ℕ) (form : Form) (place : Place) (t s 
 
 -- a format byte has the form and the low bits that it was made of
 pub form-back : (form : Form) (low : ℕ) → low ≤ 63 → formatForm (topBits form + low) ≡ form
-unfolding formatForm topBits
+unfolding formatForm
 form-back Plain low h = rw (eq-eqb ((0x00 + low) / 64) 0 (omega arith))
 form-back Foreign low h = rw (ne-eqb ((0x40 + low) / 64) 0 (λ e. omega arith), eq-eqb ((0x40 + low) / 64) 1 (omega arith))
 form-back Physical low h =
@@ -49,7 +49,6 @@ form-back Functional low h =
     )
 
 pub low-back : (form : Form) (low : ℕ) → low ≤ 63 → (topBits form + low) % 64 ≡ low
-unfolding topBits
 low-back Plain low h = omega arith
 low-back Foreign low h = omega arith
 low-back Physical low h = omega arith

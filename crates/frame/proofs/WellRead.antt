@@ -120,7 +120,7 @@ top-three f h n0 n1 n2 = omega arith
 
 -- a format byte is made of its form and its low six bits
 pub format-made : (f : ℕ) → f < 256 → f ≡ topBits (formatForm f) + f % 64
-unfolding formatForm topBits
+unfolding formatForm
 format-made f h =
     by-test (λ (x : Form). f ≡ topBits x + f % 64) (eqb (f / 64) 0) (λ e. let a = eqb-true (f / 64) 0 e in omega arith)
     (λ n0. by-test (λ (x : Form). f ≡ topBits x + f % 64) (eqb (f / 64) 1) (λ e. let a = eqb-true (f / 64) 1 e in omega arith)
@@ -163,7 +163,7 @@ frame-made form place s n size sum hd =
     ∙ (λ i. body i ++ ((sym sum ∙ ap checksumOf body) i ∷ []))
 
 form-again : (form : Form) → formNumbered (numberOf form) ≡ form
-unfolding formNumbered numberOf
+unfolding formNumbered
 form-again Plain = refl
 form-again Physical = refl
 form-again Functional = refl

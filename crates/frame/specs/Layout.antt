@@ -13,21 +13,21 @@ use Rattle.keys.specs.declared.Form.the-variants.{Plain, Physical, Functional, 
 use Rattle.frame.specs.declared.Place.{Place}
 use Rattle.frame.specs.declared.Place.the-variants.{Format, Extra, Nowhere}
 
--- a form by its number, "0 none, 1 physical, 2 functional", and back
-unfoldable pub formNumbered : ℕ → Form
-formNumbered n =
-    if eqb n 0 then Plain else
-    if eqb n 1 then Physical else
-    if eqb n 2 then Functional else Foreign
-
-unfoldable pub numberOf : Form → ℕ
+-- the number of each form, "0 none, 1 physical, 2 functional", and the form of a number
+abbrev pub numberOf : Form → ℕ
 numberOf Plain = 0
 numberOf Physical = 1
 numberOf Functional = 2
 numberOf Foreign = 3
 
--- "Format byte: top two bits 00 no addresses, 01 CARB, 10 physical, 11 functional": the bits of a form, and the form of a format byte
-unfoldable pub topBits : Form → ℕ
+unfoldable pub formNumbered : ℕ → Form
+formNumbered n =
+    if eqb n (numberOf Plain) then Plain else
+    if eqb n (numberOf Physical) then Physical else
+    if eqb n (numberOf Functional) then Functional else Foreign
+
+-- "Format byte: top two bits 00 no addresses, 01 CARB, 10 physical, 11 functional": the bits of each form, and the form whose bits a format byte has
+abbrev pub topBits : Form → ℕ
 topBits Plain = 0x00
 topBits Foreign = 0x40
 topBits Physical = 0x80
@@ -35,9 +35,9 @@ topBits Functional = 0xC0
 
 unfoldable pub formatForm : ℕ → Form
 formatForm f =
-    if eqb (f / 64) 0 then Plain else
-    if eqb (f / 64) 1 then Foreign else
-    if eqb (f / 64) 2 then Physical else Functional
+    if eqb (f / 64) (topBits Plain / 64) then Plain else
+    if eqb (f / 64) (topBits Foreign / 64) then Foreign else
+    if eqb (f / 64) (topBits Physical / 64) then Physical else Functional
 
 -- "low six bits the length, or 0 for an extra length byte"
 unfoldable pub lowBits : Place → ℕ → ℕ

@@ -9,7 +9,7 @@ use borrow.Author.Tests.{leb-true, le-leb, lt-leb, ltb-true}
 use native.Mathlib.Omega.{arith}
 use native.Mathlib.Nat.{pow-le-pow-right, pow-succ'}
 use Rattle.base.proofs.Tests.{and-split}
-use Rattle.lines.specs.Lines.{isDigit, isCapital, hexOf, takesDigit}
+use Rattle.lines.specs.Lines.{isDigit, isCapital, takesDigit}
 use Rattle.lines.specs.Quick.{digitsAt}
 use Rattle.lines.specs.declared.Reading.{Reading}
 use Rattle.lines.specs.declared.quick.Span.{Span}
@@ -84,8 +84,3 @@ digits-within s (suc k) i n = within-by s k i n (isDigit (getD s i 0)) refl (dig
 
 pub span-within : (s : List ℕ) (i : ℕ) (t : Span) → t ≡ digitsAt s 13 i 0 → (i ≤ t .to) × (t .to ≤ i + 13)
 span-within s i t e = rw e (digits-within s 13 i 0)
-
--- ---- a hex digit's value
-hex-by : (b : ℕ) → isDigit b ≡ true → hexOf b ≤ 9
-unfolding hexOf
-hex-by b e = rw e (omega (arith, digit-within b e))

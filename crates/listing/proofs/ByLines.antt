@@ -30,7 +30,7 @@ use Rattle.listing.specs.Listing.{freshLister, answerText, stepped, said
 use Rattle.listing.specs.Listing.{endingOf, listingOf}
 use Rattle.listing.specs.InputLines.{onFirst, linesOf}
 use Rattle.listing.specs.declared.Lister.{Lister}
-use Rattle.listing.proofs.Cuts.{feed-said, feed-append}
+use Rattle.listing.proofs.Cuts.{feed-said}
 
 -- ---- ONE LINE
 -- no byte of it is a line feed
@@ -42,28 +42,6 @@ plain-first b l p = ne-eqb b lineFeed (p .each 0 (omega arith))
 
 plain-rest : (b : ℕ) (l : List ℕ) → Plain (b ∷ l) → Plain l
 plain-rest b l p = record { each = λ i h. p .each (suc i) (omega arith) }
-
--- its bytes are read, and nothing is written for them
-feed-plain : (l : List ℕ) (x : Lister) (o : List ℕ) → Plain l
-    → feed (record { lister = x; said = o }) l ≡ record { lister = withReading x (readAll (x .reading) l); said = o }
-unfolding feed feedByte readAll
-feed-plain [] x o p = refl
-feed-plain (b ∷ l) x o p = rw (plain-first b l p) (feed-plain l (withReading x (readByte (x .reading) b)) o (plain-rest b l p))
-
-ended-as : (x : Lister) (o l : List ℕ) → x .reading ≡ freshReading
-    → feedByte (record { lister = withReading x (readAll (x .reading) l); said = o }) lineFeed
-    ≡ record { lister = stepped x (lineOf l); said = o ++ saidOf x (lineOf l) }
-unfolding feedByte lineEnded stepped saidOf lineOf
-ended-as x o l e = rw e refl
-
--- A line and its line feed, where nothing of a line was read before: its event makes a step, and the step's answer is written.
-pub feed-line : (l bs : List ℕ) (x : Lister) (o : List ℕ) → Plain l → x .reading ≡ freshReading
-    → feed (record { lister = x; said = o }) (l ++ (lineFeed ∷ bs)) ≡ feed (record { lister = stepped x (lineOf l); said = o ++ saidOf x (lineOf l) }) bs
-unfolding feed
-feed-line l bs x o p e =
-    feed-append (record { lister = x; said = o }) l (lineFeed ∷ bs)
-    ∙ (ap (λ (f : Feed). feed (feedByte f lineFeed) bs) (feed-plain l x o p)
-    ∙ ap (λ (f : Feed). feed f bs) (ended-as x o l e))
 
 -- ---- A LINE THAT CAN'T BE READ
 -- it is answered with `refused 1` ..

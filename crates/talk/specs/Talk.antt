@@ -194,18 +194,26 @@ unfoldable pub grown : Message → ℕ → Message
 grown m v = grownAt (m .part) m v
 
 -- ---- what a frame does, by its data
--- the latest tester frame: "starting 82", "exactly 83 01", "exactly 83 03 and five codes"
 unfoldable pub isExactly : Message → ℕ → Bool
 isExactly m two = eqb (m .length) 2 && eqb (m .seven) two
 
 unfoldable pub asksCodes : Message → Bool
 asksCodes m = eqb (m .length) 7 && eqb (m .seven / 1_099_511_627_776) 0x8303
 
+-- the tester frame of each request: "starting 82", "exactly 83 01", "exactly 83 03 and five codes"; the other two have none
+abbrev pub asksFor : Request → Message → Bool
+asksFor Ordinary m = false
+asksFor Stop m = eqb (m .first) 0x82
+asksFor OwnTiming m = isExactly m 0x8301
+asksFor NewTiming m = asksCodes m
+asksFor Stopped m = false
+
+-- the request that a tester frame makes, and `Ordinary` where it makes none of the three
 unfoldable pub requestOf : Message → Request
 requestOf m =
-    if eqb (m .first) 0x82 then Stop else
-    if isExactly m 0x8301 then OwnTiming else
-    if asksCodes m then NewTiming else Ordinary
+    if asksFor Stop m then Stop else
+    if asksFor OwnTiming m then OwnTiming else
+    if asksFor NewTiming m then NewTiming else Ordinary
 
 -- a unit frame that makes it take effect: "a unit frame starting C2", "of exactly C3 01", "Exactly C3 03"
 abbrev pub takesEffect : Request → Message → Bool

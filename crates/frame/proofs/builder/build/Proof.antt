@@ -1,9 +1,41 @@
 -- `frame::builder::build` meets its contract: a refusal touches nothing, and otherwise `write` has put the frame there.
 -- Assumes nothing.
+use mathlib.Core.Path.{_≡_, ap, _∙_}
+use mathlib.Core.List.{List}
+use Prim.Native.Nat.{ℕ, _+_}
 use borrow.Author.Needs.{needs}
-use Rattle.frame.proofs.Announced.{writable, builds-refused, builds-done}
+use borrow.Author.Tests.{eq-eqb, ne-eqb}
+use lib.ListN.{length}
+use Rattle.base.specs.Numbers.{taken}
+use Rattle.keys.specs.declared.Form.{Form}
+use Rattle.frame.specs.Layout.{formNumbered, headSize, frameOf}
+use Rattle.frame.specs.Build.{placeFor, planned, sizeOf, buildNo, notBuilt, builtOf, over, bufferAfter, Builds}
+use Rattle.frame.specs.declared.Place.{Place}
+use Rattle.frame.specs.declared.Plan.{Plan}
+use Rattle.frame.proofs.Announced.{writable}
 use Rattle.frame.proofs.builder.build.Statement.{statement}
 use Rattle.frame.proofs.builder.build.Tie as tie
+
+-- what was written is the frame that is planned
+planned-is : (p : Plan) (bytes : List ℕ) (form : Form) (place : Place) → form ≡ formNumbered (p .form) → place ≡ placeFor (p .kb1) (length bytes)
+    → frameOf form place (p .target) (p .source) bytes ≡ planned p bytes
+unfolding planned
+planned-is p bytes form place ef ep = λ i. frameOf (ef i) (ep i) (p .target) (p .source) bytes
+
+-- its two returns, where the number is k
+module _ (p : Plan) (bytes out : List ℕ) (k : ℕ) (ek : k ≡ buildNo p (length bytes) (length out)) where
+  builds-refused : (k ≡ taken → ⊥) → Builds p bytes out (notBuilt k) out
+  unfolding builtOf bufferAfter
+  builds-refused h = record { answer = rw (← ek, ne-eqb k 0 h); memory = rw (← ek, ne-eqb k 0 h) }
+
+  builds-done : (form : Form) (place : Place) (len : ℕ) (after : List ℕ) → k ≡ taken → form ≡ formNumbered (p .form)
+      → place ≡ placeFor (p .kb1) (length bytes) → len ≡ headSize form place + length bytes + 1
+      → after ≡ over (frameOf form place (p .target) (p .source) bytes) out → Builds p bytes out (record { no = taken; len = len }) after
+  unfolding builtOf bufferAfter sizeOf
+  builds-done form place len after e ef ep el em = record {
+    answer = rw (← ek, eq-eqb k 0 e, ← ef, ← ep, el);
+    memory = em ∙ ap (λ (f : List ℕ). over f out) (planned-is p bytes form place ef ep) ∙ rw (← ek, eq-eqb k 0 e);
+  }
 
 build-no-requires : tie.Need-build-no-requires
 build-no-requires c κs = search needs

@@ -1,12 +1,10 @@
 -- `frame::layout::number_of` meets its contract: at each return, the tests and matches on the way there pick the case of the definition.
 -- Assumes nothing.
 use borrow.Author.Needs.{needs}
-use Rattle.frame.specs.Layout.{numberOf}
 use Rattle.frame.proofs.layout.number_of.Statement.{statement}
 use Rattle.frame.proofs.layout.number_of.Tie as tie
 
 pub number-of-spec : {M : Type 1} → statement M
-unfolding numberOf
 number-of-spec =
     tie.close
     (tie.spec

@@ -1,12 +1,10 @@
 -- `frame::layout::top_bits` meets its contract: at each return, the tests and matches on the way there pick the case of the definition.
 -- Assumes nothing.
 use borrow.Author.Needs.{needs}
-use Rattle.frame.specs.Layout.{topBits}
 use Rattle.frame.proofs.layout.top_bits.Statement.{statement}
 use Rattle.frame.proofs.layout.top_bits.Tie as tie
 
 pub top-bits-spec : {M : Type 1} → statement M
-unfolding topBits
 top-bits-spec =
     tie.close
     (tie.spec
