@@ -2,12 +2,10 @@
 -- then come from the event alone (`lent-alike`); the counts grow by what the event brings, for they were no greater than 4,000,000,000 (`lent-counts`).
 -- Assumes nothing.
 use Prim.Native.Nat.{ℕ}
-use mathlib.Core.Bool.{Bool, true, false}
 use mathlib.Core.List.{List, [], _∷_}
 use mathlib.Core.Logic.{inl, inr, ⊎-elim}
-use mathlib.Core.Path.{_≡_, refl, sym, ap, _∙_}
+use mathlib.Core.Path.{_≡_, sym, ap, _∙_}
 use borrow.Author.Tests.{eq-eqb}
-use lib.Dec.{eqb}
 use Rattle.base.specs.Choice.{if_then_else_}
 use Rattle.base.specs.Numbers.{taken}
 use Rattle.events.specs.Events.{isByte}
@@ -20,7 +18,7 @@ use Rattle.link.specs.Handling.{handled}
 use Rattle.link.specs.Stepping.{numberOf, takenBy, answerOf, countsAfter, stepOf}
 use Rattle.link.specs.declared.Answer.{Answer}
 use Rattle.link.specs.declared.Link.{Link}
-use Rattle.demands.specs.Logs.{Log, none, _▷_, clockOf, countOf, heardOf, takenOf}
+use Rattle.demands.specs.Logs.{Log, none, _▷_, heardOf, takenOf}
 use Rattle.demands.specs.Refusals.{Numbered}
 use Rattle.demands.specs.Histories.{after, answerWith, reportsTo}
 use Rattle.demands.specs.Accounts.{countsOf, added}
