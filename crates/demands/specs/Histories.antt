@@ -45,19 +45,6 @@ answerWith m es c e = m .step (after m es .link) c e
 abbrev pub answerTo : (m : Machine) → Log → Event → Told (m .Inner)
 answerTo m es e = answerWith m es (after m es .counts) e
 
--- A host may lend other counts with each event: the events with the counts that are lent for them, in order; the events alone; and the link behind them
-pub data Lendings : Type 0 where
-  nothing : Lendings
-  lend : Lendings → Counts → Event → Lendings
-
-unfoldable pub lentEvents : Lendings → Log
-lentEvents nothing = none
-lentEvents (lend h c e) = lentEvents h ▷ e
-
-unfoldable pub lentLink : (m : Machine) → Lendings → m .Inner
-lentLink m nothing = m .fresh
-lentLink m (lend h c e) = m .step (lentLink m h) c e .link
-
 -- its reports
 abbrev pub reportsTo : Machine → Log → Event → List Report
 reportsTo m es e = answerTo m es e .reports
@@ -70,6 +57,19 @@ reportsOf m (es ▷ e) = reportsOf m es ++ reportsTo m es e
 -- how many bytes it shows to be held behind events
 abbrev pub heldBy : Machine → Log → ℕ
 heldBy m es = m .held (after m es .link)
+
+-- A host may lend other counts with each event: the events with the counts that are lent for them, in order; the events alone; and the link behind them
+pub data Lendings : Type 0 where
+  nothing : Lendings
+  lend : Lendings → Counts → Event → Lendings
+
+unfoldable pub lentEvents : Lendings → Log
+lentEvents nothing = none
+lentEvents (lend h c e) = lentEvents h ▷ e
+
+unfoldable pub lentLink : (m : Machine) → Lendings → m .Inner
+lentLink m nothing = m .fresh
+lentLink m (lend h c e) = m .step (lentLink m h) c e .link
 
 -- a report of this number is among them
 unfoldable pub isAmong : ℕ → List Report → Bool
