@@ -2,25 +2,24 @@
 -- Assumes nothing.
 use Prim.Native.Nat.{ℕ, _≤_}
 use mathlib.Core.Logic.{⊎-elim}
-use mathlib.Core.Path.{_≡_, refl, sym, subst, _∙_}
+use mathlib.Core.Path.{_≡_, refl, sym, ap, subst, _∙_}
 use native.Mathlib.Omega.{arith}
 use borrow.Author.Tests.{ne-eqb}
 use Rattle.base.specs.Numbers.{taken}
-use Rattle.units.specs.Units.{micros}
 use Rattle.units.specs.declared.Micros.{Micros}
-use Rattle.reports.specs.Reporting.{listed}
+use Rattle.reports.specs.Reporting.{noReports, listed}
 use Rattle.events.specs.Events.{isOther, isByte, isNobody, isUnknown, isTooLate, isOutOfOrder, refusal}
-use Rattle.events.specs.declared.Kind.the-variants.{Byte}
-use Rattle.events.specs.declared.Side.the-variants.{Tester}
 use Rattle.events.specs.declared.Event.{Event}
 use Rattle.reports.specs.Counting.{zeroCounts, isFull}
 use Rattle.reports.specs.declared.Counts.{Counts}
 use Rattle.link.specs.Handling.{freshLink}
 use Rattle.link.specs.Stepping.{numberOf, refusedBy, countsAfter, stepOf}
+use Rattle.link.specs.declared.Answer.{Answer}
 use Rattle.link.specs.declared.Link.{Link}
 use Rattle.demands.specs.Logs.{Log, clockOf, countOf, numberAfter, takenOf}
 use Rattle.demands.specs.Refusals.{Not, Unknown, TooLate, Above, Numbered}
 use Rattle.demands.specs.Histories.{after, reportsOf, AsBefore}
+use Rattle.demands.specs.DemandOne.{someEvent}
 use Rattle.demands.proofs.Numbering.{zero-small, small-not-above, number-numbered, log-numbered}
 use Rattle.demands.proofs.Invariant.{kept-of, kept-small, refused-answer, number-answered}
 use Rattle.demands.proofs.Basics as basics
@@ -36,14 +35,17 @@ refused-as-before l c e h =
     let q = ne-eqb (numberOf l c e) taken (λ p. h (number-answered l c e ∙ p)) in
     rw (refused-answer l c e q, q) (record { link = refl; counts = refl; reports = refl })
 
+pub refused-zeros : (l : Link) (c : Counts) (e : Event) → Not (stepOf l c e .answer .no ≡ 0) → stepOf l c e .answer .reports ≡ noReports
+unfolding stepOf refusedBy
+refused-zeros l c e h =
+    let q = ne-eqb (numberOf l c e) taken (λ p. h (number-answered l c e ∙ p)) in
+    ap (λ (a : Answer). a .reports) (refused-answer l c e q)
+
 pub fresh-takes : (e : Event) → Not (Unknown e) → Not (TooLate e) → e .start .0 ≤ e .end .0 → stepOf freshLink zeroCounts e .answer .no ≡ 0
 unfolding freshLink
 fresh-takes e known early forward =
     numbered freshLink zeroCounts e .taken .1
     (known, early, ⊎-elim (λ h. omega arith) (λ h. omega arith), ⊎-elim (λ h. omega arith) (small-not-above zeroCounts zero-small))
-
-abbrev pub someEvent : Event
-someEvent = record { start = micros 0; end = micros 960; kind = Byte; side = Tester; value = 0x55 }
 
 pub some-event-taken : stepOf freshLink zeroCounts someEvent .answer .no ≡ 0
 unfolding stepOf numberOf refusal isUnknown isOther isByte isNobody isTooLate isOutOfOrder isFull freshLink zeroCounts

@@ -148,7 +148,7 @@ opens-at es e n c =
     record {
       fits = record {
         connected = ap isConnected (x .state);
-        good = x .good;
+        good = x .answer .good;
         kb1 = x .kb1;
         kb2 = x .kb2;
         windows = x .windows;

@@ -82,9 +82,9 @@ unfoldable frontOf : Log → Log
 frontOf none = none
 frontOf (l ▷ e) = l
 
-unfoldable lastOf : Event → Log → Event
-lastOf d none = d
-lastOf d (l ▷ e) = e
+unfoldable lastEvent : Event → Log → Event
+lastEvent d none = d
+lastEvent d (l ▷ e) = e
 
 same-place : {s t : Machine} {L : Log} {r q : Report} (x : FirstByte s L r) (y : FirstByte t L q) → r .first ≡ q .first
     → (x .before ▷ x .byte) ≡ (y .before ▷ y .byte)
@@ -134,8 +134,8 @@ module _ (B : Both) (r q : Report) (nr : r .number ≡ damageReport) (hb : r .by
   front-is = ap frontOf (same-place X Y hf)
 
   byte-is : X .byte ≡ Y .byte
-  unfolding lastOf
-  byte-is = ap (lastOf (X .byte)) (same-place X Y hf)
+  unfolding lastEvent
+  byte-is = ap (lastEvent (X .byte)) (same-place X Y hf)
 
   agreed : Agree (B .s) (B .t) (X .before)
   agreed = front-next (B .s) (B .t) (B .es) (X .before) (B .e) (X .byte) (X .begins) (B .agree)

@@ -143,7 +143,6 @@ handled-names l log e t inv h few n c =
       state = ap (λ (p : Phase). p .state) phase;
       kb1 = ap (λ (p : Phase). p .start .kb1) phase ∙ d .1;
       kb2 = ap (λ (p : Phase). p .start .kb2) phase ∙ d .2;
-      good = d .3;
       windows = ap (λ (p : Phase). p .windows) phase ∙ ap setOf (d .1);
       reply = ap (λ (p : Phase). p .reply) phase;
       request = ap (λ (p : Phase). p .request) phase;

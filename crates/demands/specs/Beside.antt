@@ -1,5 +1,5 @@
 -- What stands beside the demands: theorems about our own link, inside, and about our listing program. Proved in proofs/Beside.antt. Assumes nothing.
-use Prim.Native.Nat.{ℕ, _<_}
+use Prim.Native.Nat.{ℕ, _≤_, _<_}
 use mathlib.Core.Bool.{true, false}
 use mathlib.Core.List.{List, _++_}
 use mathlib.Core.Logic.{_↔_}
@@ -15,7 +15,7 @@ use Rattle.talk.specs.declared.Reply.the-variants.{Never}
 use Rattle.talk.specs.declared.Request.the-variants.{Ordinary}
 use Rattle.phases.specs.Phases.{isStarting, isOpen, isConnected}
 use Rattle.phases.specs.declared.State.the-variants.{Quiet}
-use Rattle.reports.specs.Reporting.{listed}
+use Rattle.reports.specs.Reporting.{noReports, listed}
 use Rattle.events.specs.declared.Event.{Event}
 use Rattle.link.specs.declared.Link.{Link}
 use Rattle.link.specs.declared.Answer.{Answer}
@@ -26,7 +26,7 @@ use Rattle.link.specs.Telling.{handledTells}
 use Rattle.text.specs.Text.{headText, endText}
 use Rattle.listing.specs.Listing.{listingOf}
 use Rattle.demands.specs.Logs.{Log, _▷_, InBytes, heardIn, numberAfter, takenOf}
-use Rattle.demands.specs.Refusals.{Numbered}
+use Rattle.demands.specs.Refusals.{Not, Numbered}
 use Rattle.demands.specs.Histories.{after, reportsOf}
 use Rattle.demands.specs.Ours.{ours, ourAnswer}
 use Rattle.demands.specs.Accounts.{countsOf, heldIn}
@@ -51,7 +51,6 @@ pub record ConnectedLink (log : Log) (e : Event) (c : Connects log e) (a : Answe
   pub state : a .link .phase .state ≡ Quiet
   pub kb1 : a .link .phase .start .kb1 ≡ c .kb1
   pub kb2 : a .link .phase .start .kb2 ≡ c .kb2
-  pub good : goodPair (c .kb1) (c .kb2) ≡ true
   pub windows : a .link .phase .windows ≡ setOf (c .kb1)
   pub reply : a .link .phase .reply ≡ Never
   pub request : a .link .phase .request ≡ Ordinary
@@ -61,6 +60,8 @@ pub record Beside : Type 0 where
   -- ---- beside demand 1
   -- The number of an event, for any link, also for such as no history gives: by its own clock and the number of events that it has taken.
   pub numbered : (l : Link) (c : Counts) (e : Event) → Numbered (l .clock) (l .taken) c e (stepOf l c e .answer .no)
+  -- Beside a refusal all three places of an answer are at 0, for any link: "every other number is 0".
+  pub refused-zeros : (l : Link) (c : Counts) (e : Event) → Not (stepOf l c e .answer .no ≡ 0) → stepOf l c e .answer .reports ≡ noReports
   -- ---- beside demand 2
   -- The link was not connected, and is connected after the event, exactly if the event is taken and completes an initialization.
   pub becomes-connected-exactly : (es : Log) (e : Event)
@@ -81,7 +82,9 @@ pub record Beside : Type 0 where
   -- ---- beside demand 3
   -- No byte is held while neither a message, nor damage, nor an initialization is open.
   pub idle : (es : Log) → isOpen (after ours es .link .phase .state) ≡ false → isStarting (after ours es .link .phase .state) ≡ false → heldIn ours es ≡ 0
-  -- NO REPORT IS LOST: those in the three places of an answer to an event that was taken are the reports of all its moves, in order.
+  -- An answer never says that more than its three places are filled, for any link; and ..
+  pub three-places : (l : Link) (c : Counts) (e : Event) → stepOf l c e .answer .reports .n ≤ 3
+  -- .. NO REPORT IS LOST: those in the three places of an answer to an event that was taken are the reports of all its moves, in order.
   pub none-lost : (es : Log) (e : Event) → ourAnswer es e .no ≡ 0 → listed (ourAnswer es e .reports) ≡ handledTells (after ours es .link) e
   -- UP TO THE TEXT, for every input, whatever bytes it is of: its listing is the header, what is written for the events of its lines, in order, and an end
   -- line that shows the seven counts worked out from the history of these events, and how many bytes are held behind it.
