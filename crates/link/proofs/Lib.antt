@@ -1,4 +1,5 @@
 pub mod Ways
+pub mod Walk
 pub mod Long
 pub mod Three
 pub mod One
