@@ -1,5 +1,6 @@
 pub mod Ways
 pub mod Walk
+pub mod Kept
 pub mod Long
 pub mod Three
 pub mod One
