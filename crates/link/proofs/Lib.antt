@@ -3,4 +3,5 @@ pub mod Walk
 pub mod Kept
 pub mod Long
 pub mod Three
+pub mod Followed
 pub mod One
