@@ -10,7 +10,7 @@ use Rattle.events.specs.declared.Event.{Event}
 use Rattle.reports.specs.declared.Report.{Report}
 use Rattle.demands.specs.Logs.{Log, none, _▷_, heardIn, takenOf, Begins, whole, more}
 use Rattle.demands.specs.Refusals.{Not}
-use Rattle.demands.specs.Histories.{Machine, reportsTo, reportsOf, Says}
+use Rattle.demands.specs.Histories.{Machine, reportsTo, reportsOf, Says, Among}
 use Rattle.demands.specs.Accounts.{namedIn, heldIn}
 use Rattle.demands.specs.Sessions.{Talk, talkAfter, Session, opens, lasts, OpensIn, EarlyAt, StrayAt, gapBefore, IdleOver, Early, Stray, replyAt}
 use Rattle.demands.specs.Endings.{Starting, starts, goes-on}
@@ -38,7 +38,7 @@ module _ (s t : Machine) where
 
   pub session-move : (es : Log) (k : Talk) → Agree s t es → Session s es k → Session t es k
   unfolding Agree
-  session-move es k a (opens n c) = opens n c
+  session-move (es ▷ e) k a (opens {r = r} i n) = opens (subst (Among r) (a .1) i) n
   session-move (es ▷ e) k a (lasts {t = j} z n) =
       subst (λ (rs : List Report). Session t (es ▷ e) (talkAfter j (e .side) (heardIn (es ▷ e)) rs)) (sym (a .1))
       (lasts (session-move es j (a .0) z) (subst (λ (rs : List Report). Not (Says downReport rs)) (a .1) n))

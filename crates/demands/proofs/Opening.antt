@@ -44,6 +44,7 @@ use Rattle.demands.proofs.Tiling.{sum-is}
 use Rattle.demands.proofs.Invariant.{kept-of}
 use Rattle.demands.proofs.Basics.{basics, held-is, answer-taken, calm}
 use Rattle.demands.proofs.Names.{connects-link}
+use Rattle.demands.proofs.KeyBytes.{ours-opens}
 use Rattle.demands.proofs.Completing.{acted-byte}
 use Rattle.demands.proofs.Listening.{byte-longer}
 use Rattle.demands.proofs.Recent.{open-stays}
@@ -253,7 +254,9 @@ module _ (before : Log) (b : Event) (t : Talk) (i : InBytes before) (session : S
 
 came-by : (before : Log) (b : Event) (u : Talk) → InBytes before → Session ours (before ▷ b) u → b .kind ≡ Byte → numberAfter (takenOf before) b ≡ taken
     → after ours (before ▷ b) .link .named ≡ length (heardIn before) → Came before b u
-came-by before b u i (opens n c) k m a = absurd (not-connecting before b m k (connected-quiet before b n c) a)
+came-by before b u i (opens {r = r} w n) k m a =
+    let x = ours-opens before b r w n in
+    absurd (not-connecting before b m k (connected-quiet before b (x .number) (x .connects)) a)
 came-by before b u i (lasts {t = t} front stays) k m a =
     let o = opened-in before b t i front stays k m a in
     record { talk = t; opens = o; same = opening before b t i o .talk }
