@@ -274,4 +274,4 @@ module _ (m : Machine) (D : Meets m) where
   session-fixed es j k b (opens {es = es1} {e = e} {r = r} i n) (lasts {t = t} y z) = absurd (not-both es1 e r t (b .0) (opened es1 e r i n) y)
   session-fixed es j k b (lasts {es = es1} {e = e} {t = t} x w) (opens {r = s} o d) = absurd (not-both es1 e s t (b .0) (opened es1 e s o d) x)
   session-fixed es j k b (lasts {es = es1} {e = e} {t = t} x w) (lasts {t = u} y z) =
-      ap (λ (v : Talk). talkAfter v (e .side) (heardIn (es1 ▷ e)) (reportsTo m es1 e)) (session-fixed es1 t u (b .0) x y)
+      ap (λ (v : Talk). talkAfter v (takenOf (es1 ▷ e)) (reportsTo m es1 e)) (session-fixed es1 t u (b .0) x y)
