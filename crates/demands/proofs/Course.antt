@@ -36,6 +36,7 @@ use Rattle.demands.specs.Connecting.{Connects}
 use Rattle.demands.specs.Sessions.{pendingIn, windowsIn, Talk, opening, talkAfter, Session, opens, lasts}
 use Rattle.demands.proofs.Basics.{basics, answer-taken, answer-refused, calm}
 use Rattle.demands.proofs.Names.{connects-link}
+use Rattle.demands.proofs.KeyBytes.{ours-opens}
 use Rattle.demands.proofs.Carrying.{Kept, kept-none}
 use Rattle.demands.proofs.Saying.{Each, each-none, among-right}
 use Rattle.demands.specs.Messages.{InTime}
@@ -170,6 +171,8 @@ goes-on es e t r all (over k f c) m n s = absurd (n k)
 -- THE LINK OF A SESSION is as the session says
 pub session-at : {es : Log} {t : Talk} → InBytes es → Session ours es t → AtLink es t
 unfolding InBytes
-session-at b (opens {es = es} {e = e} n c) = opens-at es e n c
+session-at b (opens {es = es} {e = e} {r = r} a n) =
+    let x = ours-opens es e r a n in
+    subst (AtLink (es ▷ e)) (sym (x .same)) (opens-at es e (x .number) (x .connects))
 session-at b (lasts {es = es} {e = e} {t = t} s n) =
     goes-on es e t _ (reportsTo ours es e) (event-ends es e t b (session-at (b .0) s)) refl n (lasts s n)
