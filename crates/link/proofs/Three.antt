@@ -1,10 +1,10 @@
 -- Three places are enough, on any link: no report of an event is lost. A phase has a budget, the number of reports that passing time and closing can
 -- still make of it, and each such move pays for its report out of it; so when an event acts, at most two reports have been made.
 -- Assumes nothing.
-use Prim.Native.Nat.{ℕ, zero, suc, _+_, _≤_}
+use Prim.Native.Nat.{ℕ, _+_, _≤_}
 use mathlib.Core.Bool.{Bool, true, false, not, _&&_, false≢true}
 use mathlib.Core.Path.{_≡_, _∙_, refl, sym, ap}
-use mathlib.Core.List.{List, [], _∷_, _++_, append-nil, append-assoc}
+use mathlib.Core.List.{List, _++_, append-nil, append-assoc}
 use native.Mathlib.Omega.{arith}
 use lib.Dec.{eqb}
 use Rattle.base.specs.Choice.{if_then_else_}
@@ -27,34 +27,20 @@ use Rattle.phases.specs.declared.Phase.{Phase}
 use Rattle.moves.specs.Moves.{isSilent, afterSilence, afterP2, afterP3, sinceOrigin, afterWindow, closing, leaving}
 use Rattle.moves.specs.Moves.{startingSlow, startingFast, byteIn, afterByte, afterStop}
 use Rattle.moves.specs.declared.Move.{Move}
-use Rattle.reports.specs.Reporting.{reportOf, appended, listed, told, moved}
+use Rattle.reports.specs.Reporting.{reportOf, listed, told, moved}
 use Rattle.reports.specs.declared.Report.{Report}
-use Rattle.reports.specs.declared.Reports.{Reports}
 use Rattle.reports.specs.declared.Run.{Run}
+use Rattle.reports.proofs.Places.{placed}
 use Rattle.link.specs.Handling.{passed, shut, hearing, byteHeard, actedBy, acted, begun, handled}
 use Rattle.link.specs.Telling.{tells, passedTells, shutTells, byteTells, actedTells, handledTells}
 use Rattle.link.specs.declared.Link.{Link}
 
--- ---- a report that finds a place is the last of the list
+-- ---- a move makes one report or none
 abbrev made : Move → ℕ
 made m = if eqb (m .number) 0 then 0 else 1
 
 one-at-most : (m : Move) → made m ≤ 1
 one-at-most m = by-test (λ (k : ℕ). k ≤ 1) (eqb (m .number) 0) (λ _. omega arith) (λ _. omega arith)
-
-record Placed (rs : Reports) (x : Report) : Type 0 where
-  last : listed (appended rs x) ≡ listed rs ++ (x ∷ [])
-  more : appended rs x .n ≡ rs .n + 1
-
-placed-at : (a b c x : Report) (n : ℕ) → n ≤ 2 → Placed (record { a = a; b = b; c = c; n = n }) x
-unfolding listed appended
-placed-at a b c x zero h = record { last = refl; more = refl }
-placed-at a b c x (suc zero) h = record { last = refl; more = refl }
-placed-at a b c x (suc (suc zero)) h = record { last = refl; more = refl }
-placed-at a b c x (suc (suc (suc n))) h = absurd (omega arith)
-
-placed : (rs : Reports) (x : Report) → rs .n ≤ 2 → Placed rs x
-placed rs x h = placed-at (rs .a) (rs .b) (rs .c) x (rs .n) h
 
 -- a run comes of another with these reports behind its own
 abbrev Grows : Run → Run → List Report → Type 0
