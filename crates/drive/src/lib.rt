@@ -1,6 +1,7 @@
 // A link driven over a list of events in memory, for measuring it from C.
 ghost use mathlib.Core.Path.{_≡_};
 ghost use Prim.Native.Nat.{_+_, _≤_};
+ghost use Rattle.reports.specs.Reporting.{listed};
 ghost use Rattle.drive.specs.Drive.{eventFrom, mixed, mixedReport, mixedReports, begins, drivenBy, eventAt, digestOf};
 use events::Event;
 use link::Link;
@@ -53,7 +54,7 @@ fn mix_report(digest: u32, x: Report) -> u32
 
 // A digest with an event's reports more.
 fn mix_reports(digest: u32, rs: Reports) -> u32
-    ensures { λ r. ⌜ r ≡ mixedReports digest rs ⌝ }
+    ensures { λ r. ⌜ r ≡ mixedReports digest (listed rs) ⌝ }
 {
     let a = rs.a;
     let b = rs.b;

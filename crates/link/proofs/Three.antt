@@ -1,7 +1,7 @@
 -- Three places are enough, on any link: no report of an event is lost. At each moment so many places may still be needed (`need`): by what is open, for a start or a
 -- byte, for a stop. Each rule pays for its report out of them, and an event begins with a need of three at most.
 -- Assumes nothing.
-use Prim.Native.Nat.{ℕ, zero, suc, _+_, _≤_}
+use Prim.Native.Nat.{ℕ, _+_, _≤_}
 use mathlib.Core.Bool.{Bool, true, false, false≢true}
 use mathlib.Core.List.{List, [], _∷_, _++_, append-nil}
 use mathlib.Core.Path.{_≡_, _∙_, refl, sym, ap}
@@ -22,42 +22,28 @@ use Rattle.moves.specs.declared.Move.{Move}
 use Rattle.moves.proofs.Rules.{Moment, at-silence, at-p2, at-p3, at-window, at-closing, at-leaving, at-start, at-byte, at-stop, at-end, next}
 use Rattle.moves.proofs.Rules.{Rule, Unmoved, rests, breaks-off, waited, idled, expires, cuts-off, aborts, leaves, starts-slow, starts-fast, hurries, low}
 use Rattle.moves.proofs.Rules.{strays, misses, connects, goes-on, opens, errs, breaks, frames, grows, stops}
-use Rattle.reports.specs.Reporting.{listed, appended, reportOf, told, moved}
+use Rattle.reports.specs.Reporting.{places, listed, reportOf, told, moved}
 use Rattle.reports.specs.declared.Report.{Report}
-use Rattle.reports.specs.declared.Reports.{Reports}
 use Rattle.reports.specs.declared.Run.{Run}
+use Rattle.reports.proofs.Places.{placed}
 use Rattle.link.specs.Handling.{hearing, begun, handled}
 use Rattle.link.specs.Telling.{tells, handledTells}
 use Rattle.link.specs.declared.Link.{Link}
 use Rattle.link.proofs.Walk.{moved-phase, event-walk}
 
--- ---- a report that finds a place is the last of the list
+-- ---- a move makes one report or none
 abbrev made : Move → ℕ
 made m = if eqb (m .number) 0 then 0 else 1
-
-record Placed (rs : Reports) (x : Report) : Type 0 where
-  last : listed (appended rs x) ≡ listed rs ++ (x ∷ [])
-  more : appended rs x .n ≡ rs .n + 1
-
-placed-at : (a b c x : Report) (n : ℕ) → n ≤ 2 → Placed (record { a = a; b = b; c = c; n = n }) x
-unfolding listed appended
-placed-at a b c x zero h = record { last = refl; more = refl }
-placed-at a b c x (suc zero) h = record { last = refl; more = refl }
-placed-at a b c x (suc (suc zero)) h = record { last = refl; more = refl }
-placed-at a b c x (suc (suc (suc n))) h = absurd (omega arith)
-
-placed : (rs : Reports) (x : Report) → rs .n ≤ 2 → Placed rs x
-placed rs x h = placed-at (rs .a) (rs .b) (rs .c) x (rs .n) h
 
 record Made (r : Run) (m : Move) : Type 0 where
   grows : listed (moved r m .reports) ≡ listed (r .reports) ++ tells r m
   count : moved r m .reports .n ≡ r .reports .n + made m
 
-made-by : (b : Bool) (r : Run) (m : Move) → eqb (m .number) 0 ≡ b → r .reports .n + made m ≤ 3 → Made r m
+made-by : (b : Bool) (r : Run) (m : Move) → eqb (m .number) 0 ≡ b → r .reports .n + made m ≤ places → Made r m
 unfolding moved told tells
 made-by true r m e h = record { grows = rw e (sym (append-nil (listed (r .reports)))); count = rw e (omega arith) }
 made-by false r m e h =
-    let k : r .reports .n + 1 ≤ 3 = rw e at h in
+    let k : r .reports .n + 1 ≤ places = rw e at h in
     let p = placed (r .reports) (reportOf r (m .number) (m .reason)) (omega arith) in
     record { grows = rw e (p .last); count = rw e (p .more) }
 
@@ -172,7 +158,7 @@ module _ (mark : Micros) (e : Event) (p : Phase) where
 -- ---- so there is room at every moment
 record Roomy (k : Moment) (r : Run) (xs : List Report) : Type 0 where
   all : listed (r .reports) ≡ xs
-  room : r .reports .n + need k (r .phase) ≤ 3
+  room : r .reports .n + need k (r .phase) ≤ places
 
 moved-roomy : (mark : Micros) (e : Event) (k : Moment) (r : Run) (xs : List Report) (m : Move) → Rule mark e (r .phase) k m → Roomy k r xs
     → Roomy (next k) (moved r m) (xs ++ tells r m)
