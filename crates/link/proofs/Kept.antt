@@ -9,7 +9,6 @@ use Rattle.events.specs.declared.Event.{Event}
 use Rattle.phases.specs.declared.Phase.{Phase}
 use Rattle.moves.specs.declared.Move.{Move}
 use Rattle.moves.proofs.Rules.{Moment, Rule}
-use Rattle.reports.specs.Reporting.{moved}
 use Rattle.reports.specs.declared.Report.{Report}
 use Rattle.reports.specs.declared.Counts.{Counts}
 use Rattle.reports.specs.declared.Run.{Run}

@@ -3,7 +3,7 @@
 -- Assumes nothing.
 use Prim.Native.Nat.{ℕ, _+_, _≤_}
 use mathlib.Core.Bool.{Bool, true, false, false≢true}
-use mathlib.Core.List.{List, [], _∷_, _++_, append-nil}
+use mathlib.Core.List.{List, _++_, append-nil}
 use mathlib.Core.Path.{_≡_, _∙_, refl, sym, ap}
 use native.Mathlib.Omega.{arith}
 use lib.Dec.{eqb}
@@ -13,7 +13,6 @@ use Rattle.units.specs.declared.Micros.{Micros}
 use Rattle.events.specs.declared.Event.{Event}
 use Rattle.talk.specs.Talk.{isFirst}
 use Rattle.talk.specs.declared.Reply.{Reply}
-use Rattle.talk.specs.declared.Reply.the-variants.{Never}
 use Rattle.phases.specs.Phases.{isOpen, down, starting, connected, talking, holding, damaged, settled, framed}
 use Rattle.phases.specs.declared.State.{State}
 use Rattle.phases.specs.declared.State.the-variants.{Down, Starting, Quiet, Held, Damage}
@@ -26,7 +25,7 @@ use Rattle.reports.specs.Reporting.{places, listed, reportOf, told, moved}
 use Rattle.reports.specs.declared.Report.{Report}
 use Rattle.reports.specs.declared.Run.{Run}
 use Rattle.reports.proofs.Places.{placed}
-use Rattle.link.specs.Handling.{hearing, begun, handled}
+use Rattle.link.specs.Handling.{begun, handled}
 use Rattle.link.specs.Telling.{tells, handledTells}
 use Rattle.link.specs.declared.Link.{Link}
 use Rattle.link.proofs.Walk.{moved-phase, event-walk}

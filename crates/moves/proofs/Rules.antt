@@ -8,7 +8,6 @@ use mathlib.Core.Logic.{_⊎_, inl, inr}
 use mathlib.Core.Path.{_≡_, refl}
 use borrow.Author.Tests.{not-true, not-false}
 use lib.Dec.{eqb}
-use Rattle.base.specs.Choice.{if_then_else_}
 use Rattle.base.specs.Reports.{frameReport, damageReport, connectedReport, failedReport, outsideReport, noReplyReport, downReport, notIdleReport}
 use Rattle.base.specs.Reports.{noReason, brokenOff, closed, windowOver, wrongLow, stopped, idleOver, dropped, restarted}
 use Rattle.base.proofs.Tests.{and-split, by-test}
