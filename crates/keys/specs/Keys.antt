@@ -6,6 +6,7 @@ use mathlib.Core.List.{List, [], _∷_}
 use lib.Dec.{eqb}
 use Rattle.keys.specs.declared.Form.{Form}
 use Rattle.keys.specs.declared.Form.the-variants.{Plain, Physical, Functional, Foreign}
+use Rattle.keys.specs.declared.Pair.{Pair}
 
 -- the bits of a byte, 0 or 1 each
 abbrev pub bit0 : ℕ → ℕ
@@ -64,6 +65,9 @@ goodPair kb1 kb2 =
     && eqb (bit4 kb1 + bit5 kb1) 1
     && (lengthInFormat kb1 || extraLength kb1)
     && (noAddresses kb1 || withAddresses kb1)
+
+abbrev pub isGood : Pair → Bool
+isGood pair = goodPair (pair .kb1) (pair .kb2)
 
 -- "These are the 18 values D5 D6 57 D9 DA 5B 5D 5E DF E5 E6 67 E9 EA 6B 6D 6E EF."
 unfoldable pub eighteen : List ℕ

@@ -11,6 +11,12 @@ pub enum Form {
     Foreign,
 }
 
+// A pair of key bytes, as a unit announces it.
+pub struct Pair {
+    pub kb1: u8,
+    pub kb2: u8,
+}
+
 // Whether a pair of key bytes is good.
 pub fn good_pair(kb1: u8, kb2: u8) -> bool
     ensures { λ r. ⌜ r ≡ goodPair kb1 kb2 ⌝ }

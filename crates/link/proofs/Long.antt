@@ -12,6 +12,7 @@ use Rattle.base.specs.Choice.{if_then_else_}
 use Rattle.base.specs.Numbers.{taken}
 use Rattle.base.specs.Reports.{noReplyReport, downReport, noReason, idleOver}
 use Rattle.base.proofs.Tests.{by-test}
+use Rattle.keys.specs.declared.Pair.{Pair}
 use Rattle.units.specs.Units.{gapOf}
 use Rattle.units.specs.declared.Micros.{Micros}
 use Rattle.timing.specs.Timing.{isUnlimited, isPassed, decodedOf}
@@ -63,7 +64,7 @@ starting-long fall start h = absurd (false≢true h)
 
 connected-long : (start : Start) → Long (connected start)
 unfolding connected
-connected-long start h = set-long (start .kb1)
+connected-long start h = set-long (start .pair)
 
 settled-long : (p : Phase) → Long p → isConnected (p .state) ≡ true → Long (settled p)
 unfolding settled talking
@@ -98,22 +99,22 @@ allowed-long seven w g =
     by-test LongEnough (eqb (decodedOf (codesIn seven) .no) taken) {x = decodedOf (codesIn seven) .windows} {y = w}
     (λ t. codes-long (codesIn seven) (codes-bytes seven) (eqb-true (decodedOf (codesIn seven) .no) taken t)) (λ _. g)
 
-windows-for : (request : Request) (kb1 seven : ℕ) (w : Windows) → LongEnough w → LongEnough (windowsFor request kb1 seven w)
+windows-for : (request : Request) (pair : Pair) (seven : ℕ) (w : Windows) → LongEnough w → LongEnough (windowsFor request pair seven w)
 unfolding windowsFor
-windows-for Ordinary kb1 seven w g = g
-windows-for Stop kb1 seven w g = g
-windows-for OwnTiming kb1 seven w g = set-long kb1
-windows-for NewTiming kb1 seven w g = allowed-long seven w g
-windows-for Stopped kb1 seven w g = g
+windows-for Ordinary pair seven w g = g
+windows-for Stop pair seven w g = g
+windows-for OwnTiming pair seven w g = set-long pair
+windows-for NewTiming pair seven w g = allowed-long seven w g
+windows-for Stopped pair seven w g = g
 
-windows-after : (request : Request) (m : Message) (kb1 seven : ℕ) (w : Windows) → LongEnough w → LongEnough (windowsAfter request m kb1 seven w)
+windows-after : (request : Request) (m : Message) (pair : Pair) (seven : ℕ) (w : Windows) → LongEnough w → LongEnough (windowsAfter request m pair seven w)
 unfolding windowsAfter
-windows-after request m kb1 seven w g =
-    by-test LongEnough (isEffective request m) {x = windowsFor request kb1 seven w} {y = w} (λ _. windows-for request kb1 seven w g) (λ _. g)
+windows-after request m pair seven w g =
+    by-test LongEnough (isEffective request m) {x = windowsFor request pair seven w} {y = w} (λ _. windows-for request pair seven w g) (λ _. g)
 
 answered-long : (p : Phase) → Long p → isConnected (p .state) ≡ true → Long (answered p)
 unfolding answered timed
-answered-long p g c h = windows-after (p .request) (p .message) (p .start .kb1) (p .asked) (p .windows) (g c)
+answered-long p g c h = windows-after (p .request) (p .message) (p .start .pair) (p .asked) (p .windows) (g c)
 
 framed-long : (p : Phase) → Long p → isConnected (p .state) ≡ true → Long (framed p)
 unfolding framed

@@ -6,13 +6,13 @@ use mathlib.Core.Bool.{Bool, not, _&&_}
 use lib.Dec.{eqb}
 use Rattle.base.specs.Choice.{if_then_else_}
 use Rattle.base.specs.Reports.{frameReport, damageReport, connectedReport, failedReport, outsideReport, noReplyReport, downReport, notIdleReport}
-use Rattle.base.specs.Reports.{noReason, brokenOff, closed, windowOver, wrongLow, stopped, idleOver}
+use Rattle.base.specs.Reports.{noReason, closed, windowOver, wrongLow, stopped, idleOver}
 use Rattle.units.specs.Units.{micros, isEarlier, gapOf}
 use Rattle.units.specs.declared.Micros.{Micros}
 use Rattle.timing.specs.Timing.{isPassed}
 use Rattle.events.specs.declared.Side.{Side}
 use Rattle.starts.specs.Starts.{originOf, judged, isOver, isLast, onward, slowStart, fastStart}
-use Rattle.talk.specs.Talk.{isFirst, firstReason, begun, laterReason, isSum, grown, isStopped}
+use Rattle.talk.specs.Talk.{isFirst, firstReason, begun, laterReason, endReason, isSum, grown, isStopped}
 use Rattle.phases.specs.Phases.{isStarting, isQuiet, isHeld, isOpen, down, off, starting, connected, holding, damaged, settled, framed}
 use Rattle.phases.specs.declared.State.{State}
 use Rattle.phases.specs.declared.State.the-variants.{Down, Starting, Quiet, Held, Damage}
@@ -40,9 +40,12 @@ isSilent gap = isEarlier byteGap gap
 unfoldable pub lossReason : Phase → ℕ → ℕ
 lossReason p reason = if isHeld (p .state) then reason else p .message .why
 
+-- what silence makes of what is open
+abbrev pub ended : Phase → Move
+ended p = makes damageReport (lossReason p (endReason (p .start .pair))) (settled p)
+
 unfoldable pub afterSilence : Phase → Micros → Move
-afterSilence p gap =
-    if isOpen (p .state) && isSilent gap then makes damageReport (lossReason p brokenOff) (settled p) else still p
+afterSilence p gap = if isOpen (p .state) && isSilent gap then ended p else still p
 
 -- "First reply awaited and P2 max passed: report 6; no reply is expected." While something is open, this and the next rule rest (DECISIONS 21).
 unfoldable pub afterP2 : Phase → Micros → Move
@@ -104,7 +107,7 @@ startByte p side v gap =
 
 -- "First byte of a message": held, or damage with its reason
 unfoldable pub reasonAtFirst : Phase → Side → ℕ → Micros → ℕ
-reasonAtFirst p side v gap = firstReason (p .start .kb1) (p .reply) (p .windows) side v gap
+reasonAtFirst p side v gap = firstReason (p .start .pair) (p .reply) (p .windows) side v gap
 
 unfoldable pub firstByte : Phase → Side → ℕ → Micros → Phase
 firstByte p side v gap =

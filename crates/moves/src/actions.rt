@@ -89,7 +89,7 @@ fn reason_at_first(p: Phase, side: Side, v: u8, gap: Micros) -> u8
     let s = p.start;
     let reply = p.reply;
     let w = p.windows;
-    talk::first_reason(s.kb1, reply, w, side, v, gap)
+    talk::first_reason(s.pair, reply, w, side, v, gap)
 }
 
 // The first byte of a message.

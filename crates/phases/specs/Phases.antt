@@ -113,7 +113,7 @@ starting fall start = unconnected Starting fall start
 -- "Timing starts at the set KB1 names." No reply is expected yet.
 unfoldable pub connected : Start → Phase
 connected start = record {
-  windows = setOf (start .kb1);
+  windows = setOf (start .pair);
   message = noMessage;
   fall = micros 0;
   asked = 0;
@@ -181,7 +181,7 @@ asked p = timed (talking p Quiet First (p .message)) (p .windows) (p .message .s
 -- "a unit frame allows further ones": it may make the latest request take effect, "from this frame's end"
 unfoldable pub answered : Phase → Phase
 answered p =
-    timed (talking p Quiet Further (p .message)) (windowsAfter (p .request) (p .message) (p .start .kb1) (p .asked) (p .windows)) (p .asked)
+    timed (talking p Quiet Further (p .message)) (windowsAfter (p .request) (p .message) (p .start .pair) (p .asked) (p .windows)) (p .asked)
     (requestAfter (p .request) (p .message))
 
 unfoldable pub framed : Phase → Phase

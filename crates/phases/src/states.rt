@@ -130,7 +130,7 @@ pub fn connect(start: Start) -> Phase
     ensures { λ r. ⌜ r ≡ connected start ⌝ }
 {
     Phase {
-        windows: timing::set_of(start.kb1),
+        windows: timing::set_of(start.pair),
         message: no_message(),
         fall: Micros(0),
         asked: 0,
@@ -225,7 +225,7 @@ fn answer(p: Phase) -> Phase
     let m = p.message;
     let request = p.request;
     let start = p.start;
-    let w = talk::windows_after(request, m, start.kb1, p.asked, p.windows);
+    let w = talk::windows_after(request, m, start.pair, p.asked, p.windows);
     let q = talk_on(p, State::Quiet, Reply::Further, m);
     with_timing(q, w, p.asked, talk::request_after(request, m))
 }

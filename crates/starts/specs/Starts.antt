@@ -9,7 +9,8 @@ use Rattle.base.specs.Sums.{byteSum}
 use Rattle.base.specs.Reports.{noReason, wrongSide, tooEarly, misfit}
 use Rattle.units.specs.Units.{micros, isEarlier}
 use Rattle.units.specs.declared.Micros.{Micros}
-use Rattle.keys.specs.Keys.{goodPair}
+use Rattle.keys.specs.Keys.{goodPair, isGood}
+use Rattle.keys.specs.declared.Pair.{Pair}
 use Rattle.events.specs.Events.{sameSide}
 use Rattle.events.specs.declared.Side.{Side}
 use Rattle.events.specs.declared.Side.the-variants.{Tester, Unit}
@@ -134,8 +135,8 @@ isReplyFormat v = eqb v 0x03 || eqb v 0x00 || eqb v 0x83 || eqb v 0x80
 abbrev pub fitsAt : Stage → Start → ℕ → Bool
 fitsAt Sync s v = eqb v 0x55
 fitsAt FirstKey s v = true
-fitsAt SecondKey s v = goodPair (s .kb1) v
-fitsAt KeyBack s v = eqb v (complement (s .kb2))
+fitsAt SecondKey s v = goodPair (s .pair .kb1) v
+fitsAt KeyBack s v = eqb v (complement (s .pair .kb2))
 fitsAt AddressBack s v = eqb v (complement (s .address))
 fitsAt AskFormat s v = (eqb v 0x81 || eqb v 0xC1)
 fitsAt AskTarget s v = true
@@ -151,7 +152,7 @@ fitsAt Length s v = eqb v 0x03
 fitsAt Service s v = eqb v 0xC1
 fitsAt KeyOne s v = true
 fitsAt KeyTwo s v = true
-fitsAt Sum s v = (eqb v (s .sum) && goodPair (s .kb1) (s .kb2))
+fitsAt Sum s v = (eqb v (s .sum) && isGood (s .pair))
 
 unfoldable pub fits : Start → ℕ → Bool
 fits s v = fitsAt (s .stage) s v
@@ -217,16 +218,21 @@ onward s v = record {
   stage = nextStage (s .stage) v;
   address = s .address;
   sum = sumAfter s v;
-  kb1 = if isPairOne (roleAt (s .stage)) then v else s .kb1;
-  kb2 = if isPairTwo (roleAt (s .stage)) then v else s .kb2;
+  pair = record {
+    kb1 = if isPairOne (roleAt (s .stage)) then v else s .pair .kb1;
+    kb2 = if isPairTwo (roleAt (s .stage)) then v else s .pair .kb2;
+  };
 }
 
--- ---- how they begin: none, a slow one from its address, a fast one
+-- ---- how they begin, without key bytes yet: none, a slow one from its address, a fast one
+abbrev pub noPair : Pair
+noPair = record { kb1 = 0; kb2 = 0 }
+
 unfoldable pub noStart : Start
-noStart = record { stage = Sync; address = 0; sum = 0; kb1 = 0; kb2 = 0 }
+noStart = record { stage = Sync; address = 0; sum = 0; pair = noPair }
 
 unfoldable pub slowStart : ℕ → Start
-slowStart address = record { stage = Sync; address = address; sum = 0; kb1 = 0; kb2 = 0 }
+slowStart address = record { stage = Sync; address = address; sum = 0; pair = noPair }
 
 unfoldable pub fastStart : Start
-fastStart = record { stage = AskFormat; address = 0; sum = 0; kb1 = 0; kb2 = 0 }
+fastStart = record { stage = AskFormat; address = 0; sum = 0; pair = noPair }

@@ -6,6 +6,7 @@ ghost use Rattle.starts.specs.Starts.{isFrom, isEarly, judged, isOver};
 ghost use Rattle.starts.specs.Starts.{afterFormat, nextStage, isLast, sumAfter, onward};
 ghost use Rattle.starts.specs.Starts.{noStart, slowStart, fastStart};
 use events::Side;
+use keys::Pair;
 use units::Micros;
 
 // The byte that is due next.
@@ -56,8 +57,7 @@ struct Due {
 // How far an initialization has come: its key bytes as far as they have come, the address of a slow
 // one, the sum of a fast one's bytes so far, the stage.
 pub struct Start {
-    pub kb1: u8,
-    pub kb2: u8,
+    pub pair: Pair,
     pub address: u8,
     pub sum: u8,
     pub stage: Stage,
@@ -232,8 +232,8 @@ fn is_fitting(s: Start, v: u8) -> bool
     match stage {
         Stage::Sync => v == 0x55,
         Stage::FirstKey => true,
-        Stage::SecondKey => keys::good_pair(s.kb1, v),
-        Stage::KeyBack => v == inverse(s.kb2),
+        Stage::SecondKey => keys::good_pair(s.pair.kb1, v),
+        Stage::KeyBack => v == inverse(s.pair.kb2),
         Stage::AddressBack => v == inverse(s.address),
         Stage::AskFormat => (v == 0x81) | (v == 0xC1),
         Stage::AskTarget => true,
@@ -249,7 +249,7 @@ fn is_fitting(s: Start, v: u8) -> bool
         Stage::Service => v == 0xC1,
         Stage::KeyOne => true,
         Stage::KeyTwo => true,
-        Stage::Sum => (v == s.sum) & keys::good_pair(s.kb1, s.kb2),
+        Stage::Sum => (v == s.sum) & keys::good_pair(s.pair.kb1, s.pair.kb2),
     }
 }
 
@@ -370,8 +370,10 @@ pub fn go_onward(s: Start, v: u8) -> Start
         stage: next_stage(stage, v),
         address: s.address,
         sum: sum_after(s, v),
-        kb1: base::either(is_pair_one(role), v, s.kb1),
-        kb2: base::either(is_pair_two(role), v, s.kb2),
+        pair: Pair {
+            kb1: base::either(is_pair_one(role), v, s.pair.kb1),
+            kb2: base::either(is_pair_two(role), v, s.pair.kb2),
+        },
     }
 }
 
@@ -383,8 +385,7 @@ pub fn none() -> Start
         stage: Stage::Sync,
         address: 0,
         sum: 0,
-        kb1: 0,
-        kb2: 0,
+        pair: Pair { kb1: 0, kb2: 0 },
     }
 }
 
@@ -396,8 +397,7 @@ pub fn slow(address: u8) -> Start
         stage: Stage::Sync,
         address: address,
         sum: 0,
-        kb1: 0,
-        kb2: 0,
+        pair: Pair { kb1: 0, kb2: 0 },
     }
 }
 
@@ -409,7 +409,6 @@ pub fn fast() -> Start
         stage: Stage::AskFormat,
         address: 0,
         sum: 0,
-        kb1: 0,
-        kb2: 0,
+        pair: Pair { kb1: 0, kb2: 0 },
     }
 }

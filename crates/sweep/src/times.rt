@@ -2,6 +2,7 @@
 // made-up codes.
 use crate::Tally;
 use crate::marks;
+use keys::Pair;
 use timing::Codes;
 use timing::Limit;
 use timing::Windows;
@@ -116,5 +117,9 @@ pub(crate) fn made_codes(seed: u32) -> Codes {
 
 // The set that a KB1 names.
 pub(crate) fn set_case(t: Tally, kb1: u8) -> Tally {
-    marks::tally(t, mix_windows(t.digest, timing::set_of(kb1)), false, false)
+    let pair = Pair {
+        kb1: kb1,
+        kb2: 0x8F,
+    };
+    marks::tally(t, mix_windows(t.digest, timing::set_of(pair)), false, false)
 }

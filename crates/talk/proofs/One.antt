@@ -8,6 +8,7 @@ use Rattle.units.specs.declared.Micros.{Micros}
 use Rattle.talk.specs.declared.Part.{Part}
 use Rattle.talk.specs.declared.Reply.{Reply}
 use Rattle.talk.specs.declared.Request.{Request}
+use Rattle.keys.specs.declared.Pair.{Pair}
 use Rattle.events.specs.declared.Side.{Side}
 use Rattle.timing.specs.declared.Windows.{Windows}
 use Rattle.talk.specs.Talk.{isFirst, firstReason, begun, laterReason, isSum, isInside, grown, requestOf, windowsAfter, requestAfter, isStopped}
@@ -15,8 +16,8 @@ use Rattle.talk.specs.Talk.{isFirst, firstReason, begun, laterReason, is
 pub is-first : (reply : Reply) → Only (λ (r : Bool). r ≡ isFirst reply)
 is-first reply = only (isFirst reply)
 
-pub first-reason : (kb1 : ℕ) (reply : Reply) (w : Windows) (side : Side) (f : ℕ) (gap : Micros) → Only (λ (r : ℕ). r ≡ firstReason kb1 reply w side f gap)
-first-reason kb1 reply w side f gap = only (firstReason kb1 reply w side f gap)
+pub first-reason : (pair : Pair) (reply : Reply) (w : Windows) (side : Side) (f : ℕ) (gap : Micros) → Only (λ (r : ℕ). r ≡ firstReason pair reply w side f gap)
+first-reason pair reply w side f gap = only (firstReason pair reply w side f gap)
 
 pub begin : (side : Side) (f : ℕ) → Only (λ (r : Message). r ≡ begun side f)
 begin side f = only (begun side f)
@@ -36,8 +37,8 @@ grow m v = only (grown m v)
 pub request-of : (m : Message) → Only (λ (r : Request). r ≡ requestOf m)
 request-of m = only (requestOf m)
 
-pub windows-after : (request : Request) (m : Message) (kb1 : ℕ) (seven : ℕ) (w : Windows) → Only (λ (r : Windows). r ≡ windowsAfter request m kb1 seven w)
-windows-after request m kb1 seven w = only (windowsAfter request m kb1 seven w)
+pub windows-after : (request : Request) (m : Message) (pair : Pair) (seven : ℕ) (w : Windows) → Only (λ (r : Windows). r ≡ windowsAfter request m pair seven w)
+windows-after request m pair seven w = only (windowsAfter request m pair seven w)
 
 pub request-after : (request : Request) (m : Message) → Only (λ (r : Request). r ≡ requestAfter request m)
 request-after request m = only (requestAfter request m)

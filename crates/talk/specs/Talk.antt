@@ -7,12 +7,13 @@ use lib.Dec.{eqb, ltb}
 use Rattle.base.specs.Choice.{if_then_else_}
 use Rattle.base.specs.Numbers.{taken}
 use Rattle.base.specs.Sums.{byteSum}
-use Rattle.base.specs.Reports.{noReason, early, stray, modeOne, wrongForm, otherSide, wrongLength, wrongSum}
+use Rattle.base.specs.Reports.{noReason, brokenOff, early, stray, modeOne, wrongForm, otherSide, wrongLength, wrongSum}
 use Rattle.units.specs.Units.{isEarlier}
 use Rattle.units.specs.declared.Micros.{Micros}
 use Rattle.keys.specs.Keys.{takesForm, lengthInFormat, extraLength}
 use Rattle.keys.specs.declared.Form.{Form}
 use Rattle.keys.specs.declared.Form.the-variants.{Plain, Physical, Functional, Foreign}
+use Rattle.keys.specs.declared.Pair.{Pair}
 use Rattle.timing.specs.Timing.{setOf, decodedOf, isPassed}
 use Rattle.timing.specs.declared.Windows.{Windows}
 use Rattle.timing.specs.declared.Codes.{Codes}
@@ -72,15 +73,15 @@ hasExtra f = eqb (f % 64) 0
 unfoldable pub placeAnnounced : ℕ → ℕ → Bool
 placeAnnounced kb1 f = if hasExtra f then extraLength kb1 else lengthInFormat kb1
 
-unfoldable pub headReason : ℕ → ℕ → ℕ
-headReason kb1 f =
+unfoldable pub headReason : Pair → ℕ → ℕ
+headReason pair f =
     if isModeOne (formatForm f) then modeOne else
-    if not (takesForm kb1 (formatForm f)) then wrongForm else
-    if placeAnnounced kb1 f then noReason else wrongLength
+    if not (takesForm (pair .kb1) (formatForm f)) then wrongForm else
+    if placeAnnounced (pair .kb1) f then noReason else wrongLength
 
-unfoldable pub firstReason : ℕ → Reply → Windows → Side → ℕ → Micros → ℕ
-firstReason kb1 reply w side f gap =
-    if eqb (turnReason reply w side gap) noReason then headReason kb1 f else turnReason reply w side gap
+unfoldable pub firstReason : Pair → Reply → Windows → Side → ℕ → Micros → ℕ
+firstReason pair reply w side f gap =
+    if eqb (turnReason reply w side gap) noReason then headReason pair f else turnReason reply w side gap
 
 -- ---- a message: whose it is, the part that its next byte is, whether a length byte is among its parts, its length, how many data bytes have come,
 -- the sum of all bytes, the first data byte and the first seven of them. `why` is the reason of damage.
@@ -133,6 +134,10 @@ isInside Source = true
 isInside Length = false
 isInside Data = true
 isInside Sum = false
+
+-- the reason of a message that is held and ends because 20 ms have passed, under these key bytes: "report 2, reason 1"
+abbrev pub endReason : Pair → ℕ
+endReason pair = brokenOff
 
 -- the first seven data bytes as one number, the first byte in front: with v as the data byte at an index. (The remainder keeps it in 64 bits on any
 -- message; where fewer than seven have come it changes nothing.)
@@ -241,15 +246,15 @@ unfoldable pub ifAllowed : Decoded → Windows → Windows
 ifAllowed d w = if eqb (d .no) taken then d .windows else w
 
 -- the windows when a request takes effect: "KB1's set", or those codes
-unfoldable pub windowsFor : Request → ℕ → ℕ → Windows → Windows
-windowsFor Ordinary kb1 seven w = w
-windowsFor Stop kb1 seven w = w
-windowsFor OwnTiming kb1 seven w = setOf kb1
-windowsFor NewTiming kb1 seven w = ifAllowed (decodedOf (codesIn seven)) w
-windowsFor Stopped kb1 seven w = w
+unfoldable pub windowsFor : Request → Pair → ℕ → Windows → Windows
+windowsFor Ordinary pair seven w = w
+windowsFor Stop pair seven w = w
+windowsFor OwnTiming pair seven w = setOf pair
+windowsFor NewTiming pair seven w = ifAllowed (decodedOf (codesIn seven)) w
+windowsFor Stopped pair seven w = w
 
-unfoldable pub windowsAfter : Request → Message → ℕ → ℕ → Windows → Windows
-windowsAfter request m kb1 seven w = if isEffective request m then windowsFor request kb1 seven w else w
+unfoldable pub windowsAfter : Request → Message → Pair → ℕ → Windows → Windows
+windowsAfter request m pair seven w = if isEffective request m then windowsFor request pair seven w else w
 
 -- "Each takes effect once for its request."
 unfoldable pub spent : Request → Request

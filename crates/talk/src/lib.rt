@@ -8,6 +8,7 @@ ghost use Rattle.talk.specs.Talk.{isExactly, asksCodes, requestOf, isEff
 ghost use Rattle.talk.specs.Talk.{spent, requestAfter, isStopped};
 use events::Side;
 use keys::Form;
+use keys::Pair;
 use timing::Codes;
 use timing::Decoded;
 use timing::Windows;
@@ -150,30 +151,30 @@ fn place_announced(kb1: u8, f: u8) -> bool
 }
 
 // The reason against a format byte.
-fn head_reason(kb1: u8, f: u8) -> u8
-    ensures { λ r. ⌜ r ≡ headReason kb1 f ⌝ }
+fn head_reason(pair: Pair, f: u8) -> u8
+    ensures { λ r. ⌜ r ≡ headReason pair f ⌝ }
 {
     let form = frame::format_form(f);
     if is_mode_one(form) {
         return base::reason::MODE_ONE;
     }
-    let taken = keys::takes_form(kb1, form);
+    let taken = keys::takes_form(pair.kb1, form);
     if !taken {
         return base::reason::WRONG_FORM;
     }
-    if place_announced(kb1, f) {
+    if place_announced(pair.kb1, f) {
         return base::reason::NONE;
     }
     base::reason::WRONG_LENGTH
 }
 
 // The reason against the first byte of a message, so long after the mark, or 0.
-pub fn first_reason(kb1: u8, reply: Reply, w: Windows, side: Side, f: u8, gap: Micros) -> u8
-    ensures { λ r. ⌜ r ≡ firstReason kb1 reply w side f gap ⌝ }
+pub fn first_reason(pair: Pair, reply: Reply, w: Windows, side: Side, f: u8, gap: Micros) -> u8
+    ensures { λ r. ⌜ r ≡ firstReason pair reply w side f gap ⌝ }
 {
     let turn = turn_reason(reply, w, side, gap);
     if turn == base::reason::NONE {
-        return head_reason(kb1, f);
+        return head_reason(pair, f);
     }
     turn
 }
@@ -426,24 +427,24 @@ fn if_allowed(d: Decoded, w: Windows) -> Windows
 }
 
 // The windows when a request takes effect.
-fn windows_for(request: Request, kb1: u8, seven: u64, w: Windows) -> Windows
-    ensures { λ r. ⌜ r ≡ windowsFor request kb1 seven w ⌝ }
+fn windows_for(request: Request, pair: Pair, seven: u64, w: Windows) -> Windows
+    ensures { λ r. ⌜ r ≡ windowsFor request pair seven w ⌝ }
 {
     match request {
         Request::Ordinary => w,
         Request::Stop => w,
-        Request::OwnTiming => timing::set_of(kb1),
+        Request::OwnTiming => timing::set_of(pair),
         Request::NewTiming => if_allowed(timing::windows_of(codes_in(seven)), w),
         Request::Stopped => w,
     }
 }
 
 // The windows after a unit frame, the first seven data bytes of whose request are given.
-pub fn windows_after(request: Request, m: Message, kb1: u8, seven: u64, w: Windows) -> Windows
-    ensures { λ r. ⌜ r ≡ windowsAfter request m kb1 seven w ⌝ }
+pub fn windows_after(request: Request, m: Message, pair: Pair, seven: u64, w: Windows) -> Windows
+    ensures { λ r. ⌜ r ≡ windowsAfter request m pair seven w ⌝ }
 {
     if is_effective(request, m) {
-        return windows_for(request, kb1, seven, w);
+        return windows_for(request, pair, seven, w);
     }
     w
 }

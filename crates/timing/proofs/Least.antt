@@ -11,6 +11,7 @@ use lib.Dec.{eqb, leb, lit≤}
 use Rattle.base.specs.Numbers.{taken}
 use Rattle.base.proofs.Tests.{and-split, or-split, upTo, at-each, by-test}
 use Rattle.keys.specs.Keys.{isExtended}
+use Rattle.keys.specs.declared.Pair.{Pair}
 use Rattle.units.specs.Units.{isEarlier}
 use Rattle.units.specs.declared.Micros.{Micros}
 use Rattle.timing.specs.Timing.{isUnlimited, isBelow, setOf, p4max, isAllowed, p2Half, p2MaxOf, p3MaxOf, windowsBy, decodedOf}
@@ -70,7 +71,8 @@ codes-long c b e =
       p3max-long = p3-long (c .p3max) (windowsBy c .p3min) (omega (arith, b .p3max-byte)) (m .1);
     })
 
-pub set-long : (kb1 : ℕ) → LongEnough (setOf kb1)
+pub set-long : (pair : Pair) → LongEnough (setOf pair)
 unfolding setOf
-set-long kb1 =
-    by-test LongEnough (isExtended kb1) (λ _. record { p2max-long = lit≤ tt; p3max-long = lit≤ tt }) (λ _. record { p2max-long = lit≤ tt; p3max-long = lit≤ tt })
+set-long pair =
+    by-test LongEnough (isExtended (pair .kb1)) (λ _. record { p2max-long = lit≤ tt; p3max-long = lit≤ tt }) (λ _.
+    record { p2max-long = lit≤ tt; p3max-long = lit≤ tt })

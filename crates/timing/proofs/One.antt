@@ -1,8 +1,8 @@
 -- Any two results that meet a public function's promise are equal. Assumes nothing.
 use mathlib.Core.Path.{_≡_}
 use mathlib.Core.Bool.{Bool}
-use Prim.Native.Nat.{ℕ}
 use Rattle.base.proofs.One.{Only, only}
+use Rattle.keys.specs.declared.Pair.{Pair}
 use Rattle.units.specs.declared.Micros.{Micros}
 use Rattle.timing.specs.Timing.{untilTime, noLimit, isUnlimited, isPassed, setOf, decodedOf, encodedOf}
 use Rattle.timing.specs.declared.Limit.{Limit}
@@ -23,8 +23,8 @@ is-unlimited l = only (isUnlimited l)
 pub passed : (l : Limit) (gap : Micros) → Only (λ (r : Bool). r ≡ isPassed l gap)
 passed l gap = only (isPassed l gap)
 
-pub set-of : (kb1 : ℕ) → Only (λ (r : Windows). r ≡ setOf kb1)
-set-of kb1 = only (setOf kb1)
+pub set-of : (pair : Pair) → Only (λ (r : Windows). r ≡ setOf pair)
+set-of pair = only (setOf pair)
 
 pub windows-of : (c : Codes) → Only (λ (r : Decoded). r ≡ decodedOf c)
 windows-of c = only (decodedOf c)

@@ -9,6 +9,7 @@ use lib.Dec.{eqb, leb}
 use Rattle.base.specs.Choice.{if_then_else_}
 use Rattle.base.specs.Numbers.{taken, badTiming}
 use Rattle.keys.specs.Keys.{isExtended}
+use Rattle.keys.specs.declared.Pair.{Pair}
 use Rattle.units.specs.Units.{micros, halfMs, halfBy, step250By, byteOf, microsOfHalf, microsOf250, halfOf, steps25Of, steps250Of, isEarlier, isSame}
 use Rattle.units.specs.declared.Micros.{Micros}
 use Rattle.units.specs.declared.HalfMs.{HalfMs}
@@ -52,9 +53,9 @@ extendedSet = record {
   p4min = micros 5_000;
 }
 
--- the set that KB1 names
-unfoldable pub setOf : ℕ → Windows
-setOf kb1 = if isExtended kb1 then extendedSet else normalSet
+-- the set that key bytes name: KB1's
+unfoldable pub setOf : Pair → Windows
+setOf pair = if isExtended (pair .kb1) then extendedSet else normalSet
 
 -- "Minima count 0.5 ms."
 unfoldable pub minOf : ℕ → Micros

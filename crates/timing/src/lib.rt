@@ -6,6 +6,7 @@ ghost use Rattle.timing.specs.Timing.{minCode, p2StepsCode, p2Code, p3Co
 
 mod p2max;
 
+use keys::Pair;
 use units::Micros;
 use units::Step25;
 
@@ -108,11 +109,11 @@ fn extended_set() -> Windows
     }
 }
 
-// The set that KB1 names, which a connected link starts with.
-pub fn set_of(kb1: u8) -> Windows
-    ensures { λ r. ⌜ r ≡ setOf kb1 ⌝ }
+// The set that key bytes name, which a connected link starts with.
+pub fn set_of(pair: Pair) -> Windows
+    ensures { λ r. ⌜ r ≡ setOf pair ⌝ }
 {
-    if keys::is_extended(kb1) {
+    if keys::is_extended(pair.kb1) {
         return extended_set();
     }
     normal_set()
