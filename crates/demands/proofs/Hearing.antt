@@ -106,7 +106,7 @@ request-not : (m : Message) → isStopped (requestOf m) ≡ false
 unfolding requestOf isStopped
 request-not m =
     by-test (λ (q : Request). isStopped q ≡ false) (eqb (m .first) 0x82) {x = Stop} (λ _. refl)
-    (λ _. by-test (λ (q : Request). isStopped q ≡ false) (isExactly m 0x8301) {x = OwnTiming} (λ _. refl)
+    (λ _. by-test (λ (q : Request). isStopped q ≡ false) (isExactly m (0x83 ∷ 0x01 ∷ [])) {x = OwnTiming} (λ _. refl)
     (λ _. by-test (λ (q : Request). isStopped q ≡ false) (asksCodes m) {x = NewTiming} {y = Ordinary} (λ _. refl) (λ _. refl)))
 
 -- a frame more: what is pending, and the windows in force

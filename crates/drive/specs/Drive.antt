@@ -1,6 +1,6 @@
 -- A link driven over a list of events in memory, three numbers each, and a digest of its reports. One or two numbers left over are not looked at, and
 -- a refused event adds nothing. Assumes nothing.
-use Prim.Native.Nat.{ℕ, zero, suc, _+_, _*_, _/_, _%_}
+use Prim.Native.Nat.{ℕ, zero, suc, _+_, _*_, _/_, _%_, _^_}
 use mathlib.Core.List.{List, [], _∷_}
 use lib.ListN.{length, getD}
 use Rattle.units.specs.Units.{micros}
@@ -18,14 +18,14 @@ unfoldable pub eventFrom : ℕ → ℕ → ℕ → Event
 eventFrom head start end = record {
   start = micros start;
   end = micros end;
-  kind = kindBy (head / 65_536 % 256);
+  kind = kindBy (head / 256 ^ 2 % 256);
   side = sideBy (head / 256 % 256);
   value = head % 256;
 }
 
 -- the digest of a list of numbers: each time 31 times what there was and the next number, modulo 2 ^ 32
 unfoldable pub mixed : ℕ → ℕ → ℕ
-mixed digest x = (digest * 31 + x % 4_294_967_296) % 4_294_967_296
+mixed digest x = (digest * 31 + x % 2 ^ 32) % 2 ^ 32
 
 unfoldable pub mixedReport : ℕ → Report → ℕ
 mixedReport digest x = mixed (mixed (mixed (mixed (mixed digest (x .number)) (x .reason)) (x .first)) (x .bytes)) (x .time .0)

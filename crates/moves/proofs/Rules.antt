@@ -9,7 +9,7 @@ use mathlib.Core.Path.{_≡_, refl}
 use borrow.Author.Tests.{not-true, not-false}
 use lib.Dec.{eqb}
 use Rattle.base.specs.Reports.{frameReport, damageReport, connectedReport, failedReport, outsideReport, noReplyReport, downReport, notIdleReport}
-use Rattle.base.specs.Reports.{noReason, brokenOff, closed, windowOver, wrongLow, stopped, idleOver, dropped, restarted}
+use Rattle.base.specs.Reports.{noReason, closed, windowOver, wrongLow, stopped, idleOver, dropped, restarted}
 use Rattle.base.proofs.Tests.{and-split, by-test}
 use Rattle.units.specs.Units.{micros, gapOf}
 use Rattle.units.specs.declared.Micros.{Micros}
@@ -23,7 +23,7 @@ use Rattle.phases.specs.declared.State.{State}
 use Rattle.phases.specs.declared.State.the-variants.{Down, Starting, Quiet, Held, Damage}
 use Rattle.phases.specs.declared.Phase.{Phase}
 use Rattle.phases.proofs.StateTests.{is-starting, is-quiet}
-use Rattle.moves.specs.Moves.{still, makes, lossReason, isSilent, afterSilence, afterP2, afterP3, sinceOrigin, afterWindow, closing, leaving}
+use Rattle.moves.specs.Moves.{still, makes, lossReason, ended, isSilent, afterSilence, afterP2, afterP3, sinceOrigin, afterWindow, closing, leaving}
 use Rattle.moves.specs.Moves.{isIdle, startingSlow, isGoodLow, startingFast, startByte, reasonAtFirst, firstByte, laterByte, byteIn, afterByte, afterStop}
 use Rattle.moves.specs.declared.Move.{Move}
 
@@ -86,7 +86,7 @@ module _ (mark : Micros) (e : Event) (p : Phase) where
   pub data Rule : Moment → Move → Type 0 where
     rests : {k : Moment} → Unmoved k → Rule k (still p)
     -- time passes
-    breaks-off : isOpen (p .state) ≡ true → isSilent gap ≡ true → Rule at-silence (makes damageReport (lossReason p brokenOff) (settled p))
+    breaks-off : isOpen (p .state) ≡ true → isSilent gap ≡ true → Rule at-silence (ended p)
     waited : p .state ≡ Quiet → isFirst (p .reply) ≡ true → isPassed (p .windows .p2max) gap ≡ true
         → Rule at-p2 (makes noReplyReport noReason (settled p))
     idled : p .state ≡ Quiet → isFirst (p .reply) ≡ false → isPassed (p .windows .p3max) gap ≡ true → Rule at-p3 (makes downReport idleOver down)
