@@ -30,6 +30,7 @@ use Rattle.link.specs.declared.Link.{Link}
 use Rattle.link.specs.declared.Answer.{Answer}
 use Rattle.link.specs.Telling.{passedTells, actedTells, handledTells}
 use Rattle.link.proofs.Three.{three-enough}
+use Rattle.link.proofs.Long.{passed-recent}
 use Rattle.demands.specs.Logs.{Log, _▷_, heardIn, numberAfter, takenOf, InBytes}
 use Rattle.demands.specs.Histories.{after, reportsTo, Says, isAmong, Among}
 use Rattle.demands.specs.Connecting.{Connects}
@@ -42,7 +43,7 @@ use Rattle.demands.proofs.Saying.{Each, each-none, among-right}
 use Rattle.demands.specs.Messages.{InTime}
 use Rattle.demands.proofs.Behind.{refused, waits}
 use Rattle.demands.proofs.Listening.{heard-bytes, byte-more, other-more, refused-more}
-use Rattle.demands.proofs.Recent.{passed-recent, not-silent}
+use Rattle.demands.proofs.Recent.{not-silent}
 use Rattle.demands.proofs.Reasons.{not-other}
 use Rattle.demands.proofs.Going.{At, SpeaksOn, at-more, Told, talked, Passes, passed-step}
 use Rattle.demands.proofs.Closing.{Ends, still-up, over, behind, tick-ends, drop-ends, slow-ends, fast-ends}
@@ -89,7 +90,7 @@ module _ (es : Log) (e : Event) (t : Talk) (b : InBytes (es ▷ e)) (number : nu
       let r = begun here e in
       let s = passed r (here .mark) (e .start) in
       let p = passed-step es e all t r (here .mark) (e .start) a in
-      act-ends (e .kind) refl all (passedTells r (here .mark) (e .start)) s (λ o. in-time (passed-recent r (here .mark) (e .start) o))
+      act-ends (e .kind) refl all (passedTells r (here .mark) (e .start)) s (λ o. in-time (passed-recent (here .mark) (e .start) r o))
       (λ x i. among-right (passedTells r (here .mark) (e .start)) i) p
 
 -- ---- any event, as the step answers it
