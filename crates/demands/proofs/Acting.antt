@@ -26,7 +26,7 @@ use Rattle.reports.specs.declared.Report.{Report}
 use Rattle.reports.specs.declared.Run.{Run}
 use Rattle.link.specs.Handling.{hearing}
 use Rattle.link.specs.Telling.{tells, shutTells, byteTells}
-use Rattle.link.proofs.Long.{open-connected, quiet-connected}
+use Rattle.phases.proofs.StateTests.{open-connected, quiet-connected}
 use Rattle.demands.specs.Histories.{Tells}
 use Rattle.demands.proofs.Tiling.{moved-phase}
 use Rattle.demands.proofs.Saying.{each-both}

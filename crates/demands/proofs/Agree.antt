@@ -10,10 +10,10 @@ use Rattle.events.specs.declared.Event.{Event}
 use Rattle.reports.specs.declared.Report.{Report}
 use Rattle.demands.specs.Logs.{Log, none, _▷_, heardIn, takenOf, Begins, whole, more}
 use Rattle.demands.specs.Refusals.{Not}
-use Rattle.demands.specs.Histories.{Machine, reportsTo, reportsOf, Says}
+use Rattle.demands.specs.Histories.{Machine, reportsTo, reportsOf, Says, Among}
 use Rattle.demands.specs.Accounts.{namedIn, heldIn}
 use Rattle.demands.specs.Sessions.{Talk, talkAfter, Session, opens, lasts, OpensIn, EarlyAt, StrayAt, gapBefore, IdleOver, Early, Stray, replyAt}
-use Rattle.demands.specs.Endings.{Starting, starts, goes-on}
+use Rattle.demands.specs.Endings.{Starting, starts, goes-on, AnswersStop}
 use Rattle.demands.specs.Messages.{OpensMessage, Speaks, begins, refused, waits, grows, EndsInFrame}
 
 unfoldable pub Agree : Machine → Machine → Log → Type 0
@@ -38,9 +38,9 @@ module _ (s t : Machine) where
 
   pub session-move : (es : Log) (k : Talk) → Agree s t es → Session s es k → Session t es k
   unfolding Agree
-  session-move es k a (opens n c) = opens n c
+  session-move (es ▷ e) k a (opens {r = r} i n) = opens (subst (Among r) (a .1) i) n
   session-move (es ▷ e) k a (lasts {t = j} z n) =
-      subst (λ (rs : List Report). Session t (es ▷ e) (talkAfter j (e .side) (heardIn (es ▷ e)) rs)) (sym (a .1))
+      subst (λ (rs : List Report). Session t (es ▷ e) (talkAfter j (takenOf (es ▷ e)) rs)) (sym (a .1))
       (lasts (session-move es j (a .0) z) (subst (λ (rs : List Report). Not (Says downReport rs)) (a .1) n))
 
   pub starting-move : (es : Log) → Agree s t es → Starting s es → Starting t es
@@ -99,3 +99,7 @@ module _ (s t : Machine) where
     number = x .number;
     read = x .read;
   }
+
+  pub stop-move : (es : Log) (e : Event) (k : Talk) → Agree s t es → AnswersStop s k es e → AnswersStop t k es e
+  unfolding ends-move
+  stop-move es e k a x = record { bytes = x .bytes; ends = ends-move es e (x .bytes) a (x .ends); unit = x .unit; stop = x .stop }

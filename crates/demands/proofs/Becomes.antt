@@ -31,7 +31,7 @@ use Rattle.reports.specs.Reporting.{told, moved}
 use Rattle.reports.specs.declared.Run.{Run}
 use Rattle.link.specs.Handling.{passed, shut, hearing, byteHeard, actedBy, acted, begun, handled, linkAfter}
 use Rattle.link.specs.declared.Link.{Link}
-use Rattle.link.proofs.Long.{open-connected, quiet-connected}
+use Rattle.phases.proofs.StateTests.{open-connected, quiet-connected}
 use Rattle.demands.specs.Logs.{Log, _▷_, numberAfter, takenOf}
 use Rattle.demands.specs.Histories.{after}
 use Rattle.demands.specs.Connecting.{Connects}

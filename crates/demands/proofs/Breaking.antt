@@ -19,11 +19,12 @@ use Rattle.phases.specs.declared.Phase.{Phase}
 use Rattle.moves.specs.Moves.{lossReason, isSilent}
 use Rattle.reports.specs.declared.Report.{Report}
 use Rattle.link.specs.declared.Link.{Link}
-use Rattle.demands.specs.Logs.{Log, _▷_, heardIn, takenOf, InBytes, more}
+use Rattle.demands.specs.Logs.{Log, _▷_, bytesOf, heardIn, takenOf, InBytes, more}
 use Rattle.demands.specs.Refusals.{Not}
 use Rattle.demands.specs.Histories.{after, reportsTo, Among}
 use Rattle.demands.specs.Sessions.{Talk, SomeSession, gapBefore, Early, Stray, Turns}
-use Rattle.demands.specs.Damage.{bytesOf, bytesNamed, valuesOf, reasonIn, GoesBy, Damaged}
+use Rattle.demands.specs.Accounts.{bytesNamed}
+use Rattle.demands.specs.Damage.{valuesOf, reasonIn, GoesBy, Damaged}
 use Rattle.demands.proofs.Basics.{basics}
 use Rattle.demands.proofs.Gathering.{talkBehind, values-drop, same-values, same-length}
 use Rattle.demands.proofs.Faults.{reasons-agree}

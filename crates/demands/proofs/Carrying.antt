@@ -5,8 +5,8 @@
 use mathlib.Core.Path.{_≡_, refl, sym, ap, _∙_, subst}
 use mathlib.Core.Bool.{Bool, true, false, _&&_, _||_, false≢true, true≢false}
 use mathlib.Core.List.{List, [], _∷_, _++_, append-nil}
-use Prim.Native.Nat.{ℕ, zero, suc, _+_, _*_, _/_, _%_, _<_}
-use native.Mathlib.Nat.{zero-add}
+use Prim.Native.Nat.{ℕ, zero, suc, _+_, _*_, _/_, _%_, _^_, _<_, _≤_}
+use native.Mathlib.Nat.{zero-add, lt-of-lt-of-le, pow-suc, pow-le-pow-right}
 use native.Mathlib.Omega.{arith}
 use borrow.Author.Tests.{eqb-true, eqb-false, eq-eqb, ne-eqb, lt-ltb}
 use lib.Dec.{eqb}
@@ -29,9 +29,9 @@ use Rattle.frame.proofs.Announced.{length-some, length-byte, somewhere}
 use Rattle.frame.proofs.Starts.{Starts, frame-starts}
 use Rattle.frame.proofs.WellRead.{well-read}
 use Rattle.events.specs.declared.Side.{Side}
-use Rattle.talk.specs.Talk.{hasExtra, afterAddresses, partAfterFormat, laterReason, isSum, withSeven, afterData, withData, grown}
+use Rattle.talk.specs.Talk.{hasExtra, afterAddresses, partAfterFormat, laterReason, isSum, number, withSeven, afterData, withData, grown}
 use Rattle.talk.specs.Talk.{isExactly, asksCodes, requestOf, isEffective, ifAllowed, windowsFor, windowsAfter, spent, requestAfter, isStopped}
-use Rattle.talk.specs.Talk.{begun as opened, codesIn as codesKept}
+use Rattle.talk.specs.Talk.{begun as opened, byteAt, codesIn as codesKept}
 use Rattle.talk.specs.declared.Request.{Request}
 use Rattle.talk.specs.declared.Request.the-variants.{Ordinary, Stop, OwnTiming, NewTiming, Stopped}
 use Rattle.talk.specs.declared.Part.{Part}
@@ -60,8 +60,8 @@ pub record Carries (m : Message) (d : List ℕ) : Type 0 where
   pub first : m .first ≡ getD d 0 0
   pub request : requestOf m ≡ requestBy d
   pub codes : requestBy d ≡ NewTiming → codesKept (m .seven) ≡ codesIn d
-  pub own : isExactly m 0xC301 ≡ same d (0xC3 ∷ 0x01 ∷ [])
-  pub new : isExactly m 0xC303 ≡ same d (0xC3 ∷ 0x03 ∷ [])
+  pub own : isExactly m (0xC3 ∷ 0x01 ∷ []) ≡ same d (0xC3 ∷ 0x01 ∷ [])
+  pub new : isExactly m (0xC3 ∷ 0x03 ∷ []) ≡ same d (0xC3 ∷ 0x03 ∷ [])
 
 -- what the link keeps of the latest tester frame is what its data q says; q is no data before the first one, and once it has taken effect
 pub record Kept (request : Request) (seven : ℕ) (q : List ℕ) : Type 0 where
@@ -210,64 +210,57 @@ reply-stops request seven q a m k c = by-asked request (kept-asks request seven 
 
     by-asked : (request : Request) → Asks q request → isStopped (requestAfter request m) ≡ stops q a
     by-asked Stop (stop s o n) = rw (s, c .first) (stopped (eqb (getD a 0 0) 0xC2))
-    by-asked OwnTiming (own s o n) = rw s (others (isExactly m 0xC301) OwnTiming refl)
-    by-asked NewTiming (new s o n) = rw s (others (isExactly m 0xC303) NewTiming refl)
+    by-asked OwnTiming (own s o n) = rw s (others (isExactly m (0xC3 ∷ 0x01 ∷ [])) OwnTiming refl)
+    by-asked NewTiming (new s o n) = rw s (others (isExactly m (0xC3 ∷ 0x03 ∷ [])) NewTiming refl)
     by-asked Ordinary (ordinary s o n) = rw s
 
 -- ---- the first seven data bytes as one number
 -- two bytes as one number are those two bytes
-pair-same : (a b x y : ℕ) → b < 256 → y < 256 → eqb (a * 256 + b) (x * 256 + y) ≡ (eqb a x && eqb b y)
+pair-same : (a b x y : ℕ) → b < 256 → y < 256 → eqb (number (a ∷ b ∷ [])) (number (x ∷ y ∷ [])) ≡ (eqb a x && eqb b y)
 pair-same a b x y hb hy = by-tests (eqb a x) (eqb b y) refl refl
   where
-    by-tests : (s t : Bool) → eqb a x ≡ s → eqb b y ≡ t → eqb (a * 256 + b) (x * 256 + y) ≡ (s && t)
-    by-tests true true es et = eq-eqb (a * 256 + b) (x * 256 + y) (let p = eqb-true a x es in let q = eqb-true b y et in omega arith)
-    by-tests true false es et = ne-eqb (a * 256 + b) (x * 256 + y) (λ e. eqb-false b y et (let p = eqb-true a x es in omega arith))
-    by-tests false t es et = ne-eqb (a * 256 + b) (x * 256 + y) (λ e. eqb-false a x es (omega arith))
+    by-tests : (s t : Bool) → eqb a x ≡ s → eqb b y ≡ t → eqb (number (a ∷ b ∷ [])) (number (x ∷ y ∷ [])) ≡ (s && t)
+    by-tests true true es et = eq-eqb (number (a ∷ b ∷ [])) (number (x ∷ y ∷ [])) (let p = eqb-true a x es in let q = eqb-true b y et in omega arith)
+    by-tests true false es et = ne-eqb (number (a ∷ b ∷ [])) (number (x ∷ y ∷ [])) (λ e. eqb-false b y et (let p = eqb-true a x es in omega arith))
+    by-tests false t es et = ne-eqb (number (a ∷ b ∷ [])) (number (x ∷ y ∷ [])) (λ e. eqb-false a x es (omega arith))
 
 -- seven bytes
-abbrev sevenOf : (a b c e f g h : ℕ) → ℕ
-sevenOf a b c e f g h = (((((a * 256 + b) * 256 + c) * 256 + e) * 256 + f) * 256 + g) * 256 + h
+data Seven : List ℕ → Type 0 where
+  these : (a b c e f g h : ℕ) → Seven (a ∷ b ∷ c ∷ e ∷ f ∷ g ∷ h ∷ [])
 
--- the remainder changes nothing where fewer than seven have come
-abbrev pack : ℕ → ℕ → ℕ
-pack n v = n % 281_474_976_710_656 * 256 + v
+are-seven : (d : List ℕ) → length d ≡ 7 → Seven d
+are-seven [] n = absurd (omega arith)
+are-seven (a ∷ []) n = absurd (omega arith)
+are-seven (a ∷ b ∷ []) n = absurd (omega arith)
+are-seven (a ∷ b ∷ c ∷ []) n = absurd (omega arith)
+are-seven (a ∷ b ∷ c ∷ e ∷ []) n = absurd (omega arith)
+are-seven (a ∷ b ∷ c ∷ e ∷ f ∷ []) n = absurd (omega arith)
+are-seven (a ∷ b ∷ c ∷ e ∷ f ∷ g ∷ []) n = absurd (omega arith)
+are-seven (a ∷ b ∷ c ∷ e ∷ f ∷ g ∷ h ∷ []) n = these a b c e f g h
+are-seven (a ∷ b ∷ c ∷ e ∷ f ∷ g ∷ h ∷ x ∷ d) n = absurd (omega arith)
 
-pack-is : (n x v : ℕ) → n ≡ x → x < 281_474_976_710_656 → pack n v ≡ x * 256 + v
-pack-is n x v e h = omega arith
+-- their two in front, and the codes behind these
+seven-front : (d : List ℕ) → Seven d → ((i : ℕ) → getD d i 0 < 256) → number d / 256 ^ 5 ≡ number (getD d 0 0 ∷ getD d 1 0 ∷ [])
+seven-front d (these a b c e f g h) byte = omega (arith, byte 2, byte 3, byte 4, byte 5, byte 6)
 
-seven-packed : (a b c e f g h : ℕ) → a < 256 → b < 256 → c < 256 → e < 256 → f < 256 → g < 256
-    → pack (pack (pack (pack (pack (pack (0 + a) b) c) e) f) g) h ≡ sevenOf a b c e f g h
-seven-packed a b c e f g h ha hb hc he hf hg =
-    let two = pack-is (0 + a) a b (zero-add a) (omega arith) in
-    let three = pack-is (pack (0 + a) b) (a * 256 + b) c two (omega arith) in
-    let four = pack-is _ ((a * 256 + b) * 256 + c) e three (omega arith) in
-    let five = pack-is _ (((a * 256 + b) * 256 + c) * 256 + e) f four (omega arith) in
-    let six = pack-is _ ((((a * 256 + b) * 256 + c) * 256 + e) * 256 + f) g five (omega arith) in
-    pack-is _ (((((a * 256 + b) * 256 + c) * 256 + e) * 256 + f) * 256 + g) h six (omega arith)
-
--- its two bytes in front, and its codes
-seven-front : (a b c e f g h : ℕ) → c < 256 → e < 256 → f < 256 → g < 256 → h < 256 → sevenOf a b c e f g h / 1_099_511_627_776 ≡ a * 256 + b
-seven-front a b c e f g h hc he hf hg hh = omega arith
-
-seven-codes : (a b c e f g h : ℕ) → c < 256 → e < 256 → f < 256 → g < 256 → h < 256
-    → codesKept (sevenOf a b c e f g h) ≡ record { p2min = c; p2max = e; p3min = f; p3max = g; p4min = h }
-unfolding codesKept
-seven-codes a b c e f g h hc he hf hg hh =
-    let n = sevenOf a b c e f g h in
-    let p2min : n / 4_294_967_296 % 256 ≡ c = omega arith in
-    let p2max : n / 16_777_216 % 256 ≡ e = omega arith in
-    let p3min : n / 65_536 % 256 ≡ f = omega arith in
-    let p3max : n / 256 % 256 ≡ g = omega arith in
-    let p4min : n % 256 ≡ h = omega arith in
+seven-codes : (d : List ℕ) → Seven d → ((i : ℕ) → getD d i 0 < 256) → codesKept (number d) ≡ codesIn d
+unfolding codesKept codesIn
+seven-codes d (these a b c e f g h) byte =
+    let n = number (a ∷ b ∷ c ∷ e ∷ f ∷ g ∷ h ∷ []) in
+    let small : (c < 256) × (e < 256) × (f < 256) × (g < 256) × (h < 256) = (byte 2, byte 3, byte 4, byte 5, byte 6) in
+    let p2min : byteAt 2 n ≡ c = omega arith in
+    let p2max : byteAt 3 n ≡ e = omega arith in
+    let p3min : byteAt 4 n ≡ f = omega arith in
+    let p3max : byteAt 5 n ≡ g = omega arith in
+    let p4min : byteAt 6 n ≡ h = omega arith in
     λ i. record { p2min = p2min i; p2max = p2max i; p3min = p3min i; p3max = p3max i; p4min = p4min i }
 
 -- ---- what is kept of a message when its data has come
 record Told (m : Message) (d : List ℕ) : Type 0 where
   size : m .length ≡ length d
   first : m .first ≡ getD d 0 0
-  two : length d ≡ 2 → m .seven ≡ getD d 0 0 * 256 + getD d 1 0
-  front : length d ≡ 7 → m .seven / 1_099_511_627_776 ≡ getD d 0 0 * 256 + getD d 1 0
-  codes : length d ≡ 7 → codesKept (m .seven) ≡ codesIn d
+  seven : length d ≤ 7 → m .seven ≡ number d
+  bytes : (i : ℕ) → getD d i 0 < 256
 
 and-false : (b : Bool) → (b && false) ≡ false
 and-false true = refl
@@ -278,8 +271,8 @@ and-true true = refl
 and-true false = refl
 
 -- exactly these two bytes
-same-two : (d : List ℕ) (k x y : ℕ) → getD d 1 0 < 256 → y < 256 → (length d ≡ 2 → k ≡ getD d 0 0 * 256 + getD d 1 0)
-    → (eqb (length d) 2 && eqb k (x * 256 + y)) ≡ same d (x ∷ y ∷ [])
+same-two : (d : List ℕ) (k x y : ℕ) → getD d 1 0 < 256 → y < 256 → (length d ≡ 2 → k ≡ number d)
+    → (eqb (length d) 2 && eqb k (number (x ∷ y ∷ []))) ≡ same d (x ∷ y ∷ [])
 unfolding same
 same-two [] k x y hb hy e = refl
 same-two (a ∷ []) k x y hb hy e = sym (and-false (eqb a x))
@@ -287,29 +280,37 @@ same-two (a ∷ b ∷ []) k x y hb hy e = rw (e refl, pair-same a b x y hb hy, a
 same-two (a ∷ b ∷ c ∷ d) k x y hb hy e =
     rw (ne-eqb (suc (suc (suc (length d)))) 2 (λ z. omega arith), and-false (eqb b y), and-false (eqb a x))
 
-exactly-is : (m : Message) (d : List ℕ) (x y : ℕ) → Told m d → getD d 1 0 < 256 → y < 256 → isExactly m (x * 256 + y) ≡ same d (x ∷ y ∷ [])
+exactly-is : (m : Message) (d : List ℕ) (x y : ℕ) → Told m d → y < 256 → isExactly m (x ∷ y ∷ []) ≡ same d (x ∷ y ∷ [])
 unfolding isExactly
-exactly-is m d x y t hb hy = rw (t .size) (same-two d (m .seven) x y hb hy (t .two))
+exactly-is m d x y t hy = rw (t .size) (same-two d (m .seven) x y (t .bytes 1) hy (λ n. t .seven (omega arith)))
 
 -- exactly 83 03 and five codes
-asks-is : (m : Message) (d : List ℕ) → Told m d → getD d 1 0 < 256 → asksCodes m ≡ asksNew d
+asks-is : (m : Message) (d : List ℕ) → Told m d → asksCodes m ≡ asksNew d
 unfolding asksCodes
-asks-is m d t hb = rw (t .size) (by-size (eqb (length d) 7) refl)
+asks-is m d t = rw (t .size) (by-size (eqb (length d) 7) refl)
   where
-    by-size : (s : Bool) → eqb (length d) 7 ≡ s → (s && eqb (m .seven / 1_099_511_627_776) 0x8303) ≡ (s && eqb (getD d 0 0) 0x83 && eqb (getD d 1 0) 0x03)
-    by-size true e = rw (t .front (eqb-true (length d) 7 e)) (pair-same (getD d 0 0) (getD d 1 0) 0x83 0x03 hb (omega arith))
+    front : length d ≡ 7 → m .seven / 256 ^ 5 ≡ number (getD d 0 0 ∷ getD d 1 0 ∷ [])
+    front n = ap (λ (k : ℕ). k / 256 ^ 5) (t .seven (omega arith)) ∙ seven-front d (are-seven d n) (t .bytes)
+
+    by-size : (s : Bool) → eqb (length d) 7 ≡ s
+        → (s && eqb (m .seven / 256 ^ 5) (number (0x83 ∷ 0x03 ∷ []))) ≡ (s && eqb (getD d 0 0) 0x83 && eqb (getD d 1 0) 0x03)
+    by-size true e = rw (front (eqb-true (length d) 7 e)) (pair-same (getD d 0 0) (getD d 1 0) 0x83 0x03 (t .bytes 1) (omega arith))
     by-size false e = refl
 
+-- the five codes
+codes-are : (m : Message) (d : List ℕ) → Told m d → length d ≡ 7 → codesKept (m .seven) ≡ codesIn d
+codes-are m d t n = ap codesKept (t .seven (omega arith)) ∙ seven-codes d (are-seven d n) (t .bytes)
+
 -- and so what it asks for, what it answers and the codes in it are those of its data
-told-carries : (m : Message) (d : List ℕ) → Told m d → 0 < length d → getD d 1 0 < 256 → Carries m d
+told-carries : (m : Message) (d : List ℕ) → Told m d → 0 < length d → Carries m d
 unfolding requestOf requestBy
-told-carries m d t some hb = record {
+told-carries m d t some = record {
   some = some;
   first = t .first;
-  request = rw (exactly-is m d 0x83 0x01 t hb (omega arith), asks-is m d t hb, t .first);
-  codes = λ e. t .codes (new-length (requestBy d) (asks d) e);
-  own = exactly-is m d 0xC3 0x01 t hb (omega arith);
-  new = exactly-is m d 0xC3 0x03 t hb (omega arith);
+  request = rw (exactly-is m d 0x83 0x01 t (omega arith), asks-is m d t, t .first);
+  codes = λ e. codes-are m d t (new-length (requestBy d) (asks d) e);
+  own = exactly-is m d 0xC3 0x01 t (omega arith);
+  new = exactly-is m d 0xC3 0x03 t (omega arith);
 }
   where
     new-length : (request : Request) → Asks d request → request ≡ NewTiming → length d ≡ 7
@@ -364,28 +365,20 @@ start-told (v ∷ d) side extra sum some hl =
     subst (λ (m : Message). (grownBy m d .length ≡ suc (length d)) × (grownBy m d .first ≡ v)) (sym (data-on side extra (suc (length d)) 0 sum 0 0 v some))
     (more-told d side extra (suc (length d)) 1 ((sum + v) % 256) (withSeven 0 0 v) v (omega arith) hl (omega arith))
 
--- two data bytes, and seven
-two-told : (d : List ℕ) (side : Side) (extra : Bool) (sum : ℕ) → length d ≡ 2 → getD d 0 0 < 256
-    → grownBy (coming side extra (length d) 0 sum 0 0) d .seven ≡ getD d 0 0 * 256 + getD d 1 0
-unfolding grownBy grown withData afterData withSeven byteSum
-two-told [] side extra sum e ha = absurd (omega arith)
-two-told (a ∷ []) side extra sum e ha = absurd (omega arith)
-two-told (a ∷ b ∷ []) side extra sum e ha = omega arith
-two-told (a ∷ b ∷ c ∷ d) side extra sum e ha = absurd (omega arith)
-
-seven-told : (d : List ℕ) (side : Side) (extra : Bool) (sum : ℕ) → length d ≡ 7 → ((i : ℕ) → getD d i 0 < 256)
-    → grownBy (coming side extra (length d) 0 sum 0 0) d .seven
-    ≡ sevenOf (getD d 0 0) (getD d 1 0) (getD d 2 0) (getD d 3 0) (getD d 4 0) (getD d 5 0) (getD d 6 0)
-unfolding grownBy grown withData afterData withSeven byteSum
-seven-told [] side extra sum n byte = absurd (omega arith)
-seven-told (a ∷ []) side extra sum n byte = absurd (omega arith)
-seven-told (a ∷ b ∷ []) side extra sum n byte = absurd (omega arith)
-seven-told (a ∷ b ∷ c ∷ []) side extra sum n byte = absurd (omega arith)
-seven-told (a ∷ b ∷ c ∷ e ∷ []) side extra sum n byte = absurd (omega arith)
-seven-told (a ∷ b ∷ c ∷ e ∷ f ∷ []) side extra sum n byte = absurd (omega arith)
-seven-told (a ∷ b ∷ c ∷ e ∷ f ∷ g ∷ []) side extra sum n byte = absurd (omega arith)
-seven-told (a ∷ b ∷ c ∷ e ∷ f ∷ g ∷ h ∷ []) side extra sum n byte = seven-packed a b c e f g h (byte 0) (byte 1) (byte 2) (byte 3) (byte 4) (byte 5)
-seven-told (a ∷ b ∷ c ∷ e ∷ f ∷ g ∷ h ∷ x ∷ d) side extra sum n byte = absurd (omega arith)
+-- data bytes that come, up to seven in all, stand in their number behind those before them
+seven-told : (d : List ℕ) (side : Side) (extra : Bool) (len at sum seven first : ℕ) → at + length d ≡ len → len ≤ 7 → seven < 256 ^ at
+    → ((i : ℕ) → getD d i 0 < 256) → grownBy (coming side extra len at sum seven first) d .seven ≡ seven * 256 ^ length d + number d
+unfolding grownBy withSeven byteSum
+seven-told [] side extra len at sum seven first e hl hs byte = omega arith
+seven-told (v ∷ d) side extra len at sum seven first e hl hs byte =
+    let small : seven < 256 ^ 6 = lt-of-lt-of-le hs (pow-le-pow-right {n = 256} (omega arith) {i = at} {j = 6} (omega arith)) in
+    let next : withSeven seven at v ≡ seven * 256 + v = rw (lt-ltb at 7 (omega arith)) (omega arith) in
+    let place : byteSum at 1 ≡ suc at = omega arith in
+    subst (λ (m : Message). grownBy m d .seven ≡ seven * 256 ^ suc (length d) + (v * 256 ^ length d + number d))
+    (sym (data-on side extra len at sum seven first v (omega arith)))
+    (seven-told d side extra len (byteSum at 1) (byteSum sum v) (withSeven seven at v) (if eqb at 0 then v else first) (omega arith) hl
+    (rw (next, place, pow-suc 256 at) (omega (arith, byte 0))) (λ i. byte (suc i))
+    ∙ rw (next, pow-suc 256 (length d)) (omega arith))
 
 -- data that a frame may have
 record Sound (d : List ℕ) : Type 0 where
@@ -396,20 +389,13 @@ record Sound (d : List ℕ) : Type 0 where
 -- all data bytes, and so all of it
 all-told : (d : List ℕ) (side : Side) (extra : Bool) (sum : ℕ) → Sound d
     → Told (grownBy (coming side extra (length d) 0 sum 0 0) d) d
-unfolding codesIn
 all-told d side extra sum h =
-    let byte = h .bytes in
     let s = start-told d side extra sum (h .some) (h .small) in
     record {
       size = s .0;
       first = s .1;
-      two = λ n. two-told d side extra sum n (byte 0);
-      front = λ n.
-          ap (λ (k : ℕ). k / 1_099_511_627_776) (seven-told d side extra sum n byte)
-          ∙ seven-front (getD d 0 0) (getD d 1 0) (getD d 2 0) (getD d 3 0) (getD d 4 0) (getD d 5 0) (getD d 6 0) (byte 2) (byte 3) (byte 4) (byte 5) (byte 6);
-      codes = λ n.
-          ap codesKept (seven-told d side extra sum n byte)
-          ∙ seven-codes (getD d 0 0) (getD d 1 0) (getD d 2 0) (getD d 3 0) (getD d 4 0) (getD d 5 0) (getD d 6 0) (byte 2) (byte 3) (byte 4) (byte 5) (byte 6);
+      seven = λ n. seven-told d side extra (length d) 0 sum 0 0 (zero-add (length d)) n (omega arith) (h .bytes) ∙ omega arith;
+      bytes = h .bytes;
     }
 
 -- ---- a message's head, and the data behind it
@@ -527,4 +513,4 @@ message-carries kb1 kb2 side f vs v good byte e =
     let s = f ∷ (vs ++ (v ∷ [])) in
     let p = read-parts kb1 kb2 f (vs ++ (v ∷ [])) byte (eqb-true (readOf kb1 kb2 s .no) taken (sym (message-reads kb1 kb2 side s good byte) ∙ e)) in
     let d = dataOf kb1 kb2 s in
-    told-carries _ d (form-told (formatForm f) (eqb (f % 64) 0) d vs v side (f % 64) f p) (p .sound .some) (p .sound .bytes 1)
+    told-carries _ d (form-told (formatForm f) (eqb (f % 64) 0) d vs v side (f % 64) f p) (p .sound .some)

@@ -30,18 +30,20 @@ use Rattle.link.specs.declared.Link.{Link}
 use Rattle.link.specs.declared.Answer.{Answer}
 use Rattle.link.specs.Telling.{passedTells, actedTells, handledTells}
 use Rattle.link.proofs.Three.{three-enough}
+use Rattle.link.proofs.Long.{passed-recent}
 use Rattle.demands.specs.Logs.{Log, _▷_, heardIn, numberAfter, takenOf, InBytes}
 use Rattle.demands.specs.Histories.{after, reportsTo, Says, isAmong, Among}
 use Rattle.demands.specs.Connecting.{Connects}
 use Rattle.demands.specs.Sessions.{pendingIn, windowsIn, Talk, opening, talkAfter, Session, opens, lasts}
 use Rattle.demands.proofs.Basics.{basics, answer-taken, answer-refused, calm}
 use Rattle.demands.proofs.Names.{connects-link}
+use Rattle.demands.proofs.KeyBytes.{ours-opens}
 use Rattle.demands.proofs.Carrying.{Kept, kept-none}
 use Rattle.demands.proofs.Saying.{Each, each-none, among-right}
 use Rattle.demands.specs.Messages.{InTime}
 use Rattle.demands.proofs.Behind.{refused, waits}
 use Rattle.demands.proofs.Listening.{heard-bytes, byte-more, other-more, refused-more}
-use Rattle.demands.proofs.Recent.{passed-recent, not-silent}
+use Rattle.demands.proofs.Recent.{not-silent}
 use Rattle.demands.proofs.Reasons.{not-other}
 use Rattle.demands.proofs.Going.{At, SpeaksOn, at-more, Told, talked, Passes, passed-step}
 use Rattle.demands.proofs.Closing.{Ends, still-up, over, behind, tick-ends, drop-ends, slow-ends, fast-ends}
@@ -88,7 +90,7 @@ module _ (es : Log) (e : Event) (t : Talk) (b : InBytes (es ▷ e)) (number : nu
       let r = begun here e in
       let s = passed r (here .mark) (e .start) in
       let p = passed-step es e all t r (here .mark) (e .start) a in
-      act-ends (e .kind) refl all (passedTells r (here .mark) (e .start)) s (λ o. in-time (passed-recent r (here .mark) (e .start) o))
+      act-ends (e .kind) refl all (passedTells r (here .mark) (e .start)) s (λ o. in-time (passed-recent (here .mark) (e .start) r o))
       (λ x i. among-right (passedTells r (here .mark) (e .start)) i) p
 
 -- ---- any event, as the step answers it
@@ -170,6 +172,8 @@ goes-on es e t r all (over k f c) m n s = absurd (n k)
 -- THE LINK OF A SESSION is as the session says
 pub session-at : {es : Log} {t : Talk} → InBytes es → Session ours es t → AtLink es t
 unfolding InBytes
-session-at b (opens {es = es} {e = e} n c) = opens-at es e n c
+session-at b (opens {es = es} {e = e} {r = r} a n) =
+    let x = ours-opens es e r a n in
+    subst (AtLink (es ▷ e)) (sym (x .same)) (opens-at es e (x .number) (x .connects))
 session-at b (lasts {es = es} {e = e} {t = t} s n) =
     goes-on es e t _ (reportsTo ours es e) (event-ends es e t b (session-at (b .0) s)) refl n (lasts s n)

@@ -30,7 +30,7 @@ use Rattle.reports.specs.declared.Report.{Report}
 use Rattle.reports.specs.declared.Run.{Run}
 use Rattle.link.specs.Handling.{passed, shut, begun}
 use Rattle.link.specs.declared.Link.{Link}
-use Rattle.link.proofs.Long.{Long}
+use Rattle.link.proofs.Long.{Long, passed-recent}
 use Rattle.link.specs.Telling.{tells, passedTells, shutTells, actedTells, handledTells}
 use Rattle.listing.specs.Listing.{heldOf}
 use Rattle.demands.specs.Logs.{Log, heardIn, numberAfter, takenOf, InBytes}
@@ -40,7 +40,7 @@ use Rattle.demands.specs.Sessions.{Talk, Session, gapBefore}
 use Rattle.demands.specs.Endings.{Starter}
 use Rattle.demands.proofs.Basics.{basics, held-is}
 use Rattle.demands.proofs.Saying.{Each, each-none, each-one, each-both}
-use Rattle.demands.proofs.Recent.{passed-recent, open-stays}
+use Rattle.demands.proofs.Recent.{open-stays}
 use Rattle.demands.proofs.Session.{session-link}
 use Rattle.demands.proofs.Finding.{says-speaks, tells-left, move-tells, move-each, reports-made, taken-by-report}
 use Rattle.demands.proofs.Passing.{open-or}
@@ -82,7 +82,7 @@ module _ (r : Run) (mark start : Micros) (o : isOpen (passed r mark start .phase
   was-open = left-open (r .phase) mark start (sym (ap (λ (p : Phase). isOpen (p .state)) (left-is r mark start)) ∙ o)
 
   same-run : passed r mark start ≡ r
-  same-run = open-stays r mark start was-open (passed-recent r mark start o)
+  same-run = open-stays r mark start was-open (passed-recent mark start r o)
 
 -- ---- no report 2
 abbrev NotDamage : ℕ → ℕ → Type 0
@@ -201,7 +201,7 @@ module _ (l : Link) (e : Event) (g : Long (l .phase)) where
   unfolding begun
   left-loses o c =
       subst (λ (x : Run). Loses l e (reportOf x damageReport (lossReason (x .phase) closed))) (sym (same-run r (l .mark) (e .start) o))
-      (loses closed (was-open r (l .mark) (e .start) o) (inr c) (in-time (passed-recent r (l .mark) (e .start) o)))
+      (loses closed (was-open r (l .mark) (e .start) o) (inr c) (in-time (passed-recent (l .mark) (e .start) r o)))
 
   closing-loses : Closer e → Damages (Loses l e) (tells s (closing (s .phase)))
   unfolding closing

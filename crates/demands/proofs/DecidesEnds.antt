@@ -1,24 +1,21 @@
 -- Reports 5, 6 and 7 of a link that meets the demands are those of any other, behind events that both have reported alike. Assumes nothing.
 use Prim.Native.Nat.{ℕ, _≤_, zero, suc}
-use mathlib.Core.List.{List}
 use mathlib.Core.Logic.{inl, inr, ⊎-elim}
-use mathlib.Core.Path.{_≡_, refl, sym, ap, _∙_, subst}
+use mathlib.Core.Path.{_≡_, refl, sym, _∙_, subst}
 use native.Mathlib.Omega.{arith}
 use Rattle.base.specs.Reports.{outsideReport, noReplyReport, downReport, windowOver, idleOver, stopped, dropped, restarted}
-use Rattle.frame.specs.Read.{dataOf}
 use Rattle.reports.specs.declared.Report.{Report}
 use Rattle.demands.specs.Logs.{takenOf}
 use Rattle.demands.specs.Refusals.{Not}
 use Rattle.demands.specs.Histories.{Among, Tells}
 use Rattle.demands.specs.Accounts.{heldIn}
-use Rattle.demands.specs.Sessions.{Talk, Session, NoReply, IdleOver, gapBefore, stops, pendingIn}
+use Rattle.demands.specs.Sessions.{Talk, Session, NoReply, IdleOver, gapBefore}
 use Rattle.demands.specs.Endings.{Downs}
 use Rattle.demands.proofs.Finding.{says-speaks, tells-says, among-says}
-use Rattle.demands.proofs.Agree.{held-same, session-move}
+use Rattle.demands.proofs.Agree.{held-same, session-move, stop-move}
 use Rattle.demands.proofs.SameList.{Has}
 use Rattle.demands.proofs.Sharing.{Both, turned, before, here, there, formed-here, formed-there, like, like-plain}
 use Rattle.demands.proofs.DecidesStarts.{starts-too, fails-too}
-use Rattle.demands.proofs.DecidesMessages.{framed-too}
 
 module _ (B : Both) where
   session-too : (k : Talk) → Session (B .s) (B .es) k → Session (B .t) (B .es) k
@@ -64,14 +61,7 @@ module _ (B : Both) where
     halts : Moves stopped
     halts x =
         let w = B .D .two .stops-exactly (B .es) (B .e) k (B .inBytes) session .0 x in
-        let y = framed-too B (w .report) (w .made) (w .number) in
-        B .E .two .stops-exactly (B .es) (B .e) k (B .inBytes) (session-too k session) .1 (record {
-          report = y .report;
-          made = y .made;
-          number = y .number;
-          unit = w .unit;
-          stop = ap (λ (l : List ℕ). stops (pendingIn (k .kb1) (k .kb2) (k .frames)) (dataOf (k .kb1) (k .kb2) l)) (y .names) ∙ w .stop;
-        })
+        B .E .two .stops-exactly (B .es) (B .e) k (B .inBytes) (session-too k session) .1 (stop-move (B .s) (B .t) (B .es) (B .e) k (B .agree) w)
 
     by-reason : (n : ℕ) → (1 ≤ n) × (n ≤ 4) → Moves n
     by-reason zero h x = absurd (omega arith)

@@ -18,13 +18,13 @@ use Rattle.events.specs.Events.{isByte}
 use Rattle.events.specs.declared.Event.{Event}
 use Rattle.events.specs.declared.Kind.the-variants.{Byte}
 use Rattle.reports.specs.declared.Report.{Report}
-use Rattle.demands.specs.Logs.{Log, none, _▷_, heardOf, heardIn, numberAfter, takenOf, InBytes, Begins, whole, more}
+use Rattle.demands.specs.Logs.{Log, none, _▷_, heardOf, bytesOf, heardIn, numberAfter, takenOf, InBytes, Begins, whole, more}
 use Rattle.demands.specs.Refusals.{Not}
 use Rattle.demands.specs.Histories.{Machine, reportsTo, reportsOf, Among, first, later}
-use Rattle.demands.specs.Accounts.{namedBy, heldIn, InTurn, namedIn}
+use Rattle.demands.specs.Accounts.{namedBy, bytesNamed, heldIn, InTurn, namedIn}
 use Rattle.demands.specs.Sessions.{Talk, Session, EarlyAt, StrayAt, FirstByte, gapBefore, Early, Stray, replyAt}
 use Rattle.demands.specs.Messages.{ReportsFrame}
-use Rattle.demands.specs.Damage.{bytesOf, bytesNamed, reasonIn, GoesBy, Damaged}
+use Rattle.demands.specs.Damage.{reasonIn, GoesBy, Damaged}
 use Rattle.demands.specs.Deciding.{Meets}
 use Rattle.demands.proofs.Finding.{says-speaks, among-says}
 use Rattle.demands.proofs.Saying.{not-among, among-right}
@@ -54,7 +54,7 @@ module _ (B : Both) where
   abbrev pub heard : List ℕ
   heard = heardIn (B .es ▷ B .e)
 
-  pub framed-too : (r : Report) → Among r (here B) → r .number ≡ frameReport → ReportsFrame heard (there B) (namedBy heard r)
+  framed-too : (r : Report) → Among r (here B) → r .number ≡ frameReport → ReportsFrame heard (there B) (namedBy heard r)
   framed-too r i n =
       let bytes = namedBy heard r in
       let ends = B .D .two .frames-exactly (B .es) (B .e) bytes (B .inBytes) .0 (record { report = r; made = i; number = n; names = refl }) in

@@ -26,7 +26,7 @@ use Rattle.reports.specs.Reporting.{namesBytes, told, withPhase, moved}
 use Rattle.reports.specs.declared.Run.{Run}
 use Rattle.link.specs.Handling.{passed, hearing, byteHeard}
 use Rattle.link.specs.Telling.{tells, byteTells}
-use Rattle.link.proofs.Long.{open-connected, quiet-connected}
+use Rattle.phases.proofs.StateTests.{open-connected, quiet-connected}
 use Rattle.demands.proofs.Tiling.{moved-heard, moved-phase}
 use Rattle.demands.proofs.Passing.{Idled}
 use Rattle.demands.proofs.Acting.{quiet-shut}

@@ -19,16 +19,17 @@ use Rattle.events.specs.declared.Event.{Event}
 use Rattle.reports.specs.declared.Report.{Report}
 use Rattle.demands.specs.Logs.{Log, none, _▷_, markOf, heardOf, heardIn, numberAfter, takenOf, InBytes}
 use Rattle.demands.specs.Refusals.{Not}
-use Rattle.demands.specs.Histories.{Machine, reportsTo, reportsOf, isAmong, Says}
-use Rattle.demands.specs.Accounts.{InTurn, namedIn, heldIn}
-use Rattle.demands.specs.Starts.{Low, SlowStart, slow, FastStart, fast, Header, plain, plain-long, addressed, addressed-long, Request, request}
+use Rattle.demands.specs.Histories.{Machine, reportsTo, reportsOf, isAmong, Says, Among}
+use Rattle.demands.specs.Accounts.{InTurn, namedBy, namedIn, heldIn}
+use Rattle.demands.specs.Starts.{Low}
 use Rattle.demands.specs.Connecting.{Since, here, tick, byte, Connects}
-use Rattle.demands.specs.Sessions.{Talk, opening, talkAfter, Session, opens, lasts, IdleOver, gapBefore}
+use Rattle.demands.specs.Sessions.{Talk, openedBy, talkAfter, Session, opens, lasts, IdleOver, gapBefore}
 use Rattle.demands.specs.Endings.{Starter, NotIdle, WrongLow, Starting, starts, goes-on}
 use Rattle.demands.specs.Deciding.{Meets}
 use Rattle.demands.proofs.Exactly.{log-taken, log-refused}
 use Rattle.demands.proofs.Names.{since-heard}
-use Rattle.demands.proofs.Failing.{Same, same-way, since-only}
+use Rattle.demands.proofs.Saying.{only-one}
+use Rattle.demands.proofs.KeyBytes.{starter, not-byte, OpenedBy, report-opens}
 use Rattle.demands.proofs.Finding.{tells-says}
 
 -- ---- AN INITIALIZATION GOES ON, OR NOT: by events and reports
@@ -173,52 +174,6 @@ module _ (m : Machine) where
       (goes es e (starting-decided es) (never (says connectedReport (reportsTo m es e))) (never (says failedReport (reportsTo m es e))))
 
 -- ---- A HISTORY FIXES ITS SESSION
--- the key bytes of an initialization that is complete
-request-wakes : {w c : Event} {bs : Log} → Request w bs c → w .kind ≡ WakeUp
-request-wakes (request k l f t s d c) = k
-
-header-wakes : {w h : Event} {bs : Log} {n : ℕ} → Header w bs h n → w .kind ≡ WakeUp
-header-wakes (plain r a v) = request-wakes r
-header-wakes (plain-long r a v l) = request-wakes r
-header-wakes (addressed r a v t s) = request-wakes r
-header-wakes (addressed-long r a v t s l) = request-wakes r
-
-slow-starts : {a : Event} {k l : ℕ} {bs : Log} → SlowStart a k l bs → a .kind ≡ Address
-slow-starts (slow k s o t b d) = k
-
-fast-starts : {a : Event} {k l : ℕ} {bs : Log} → FastStart a k l bs → a .kind ≡ WakeUp
-fast-starts (fast h d o t s) = header-wakes h
-
-starter : {a : Event} {k l : ℕ} {bs : Log} → SlowStart a k l bs ⊎ FastStart a k l bs → Starter a
-starter (inl x) = inl (slow-starts x)
-starter (inr x) = inr (fast-starts x)
-
-abbrev Keys : ℕ → ℕ → ℕ → ℕ → Type 0
-Keys k l i j = (k ≡ i) × (l ≡ j)
-
-slow-keys : {a : Event} {k l i j : ℕ} {bs : Log} → SlowStart a k l bs → SlowStart a i j bs → Keys k l i j
-slow-keys (slow k s o t b d) (slow k1 s1 o1 t1 b1 d1) = (refl, refl)
-
-fast-keys : {a : Event} {k l i j : ℕ} {bs : Log} → FastStart a k l bs → FastStart a i j bs → Keys k l i j
-fast-keys (fast h d o t s) (fast h1 d1 o1 t1 s1) = (refl, refl)
-
-apart : (a : Event) → a .kind ≡ Address → a .kind ≡ WakeUp → ⊥
-unfolding wakes
-apart a x y = false≢true (sym (ap wakes x) ∙ ap wakes y)
-
-keys : {a : Event} {k l i j : ℕ} {bs : Log} → SlowStart a k l bs ⊎ FastStart a k l bs → SlowStart a i j bs ⊎ FastStart a i j bs → Keys k l i j
-keys {a = a} (inl x) (inl y) = slow-keys x y
-keys {a = a} (inl x) (inr y) = absurd (apart a (slow-starts x) (fast-starts y))
-keys {a = a} (inr x) (inl y) = absurd (apart a (slow-starts y) (fast-starts x))
-keys {a = a} (inr x) (inr y) = fast-keys x y
-
-same-keys : {a c : Event} {before earlier bs cs : Log} {e : Event} {k l i j : ℕ} → Same a before bs c earlier cs
-    → SlowStart a k l (bs ▷ e) ⊎ FastStart a k l (bs ▷ e) → SlowStart c i j (cs ▷ e) ⊎ FastStart c i j (cs ▷ e) → Keys k l i j
-same-keys same-way x y = keys x y
-
-pub connects-keys : (log : Log) (e : Event) (c d : Connects log e) → Keys (c .kb1) (c .kb2) (d .kb1) (d .kb2)
-connects-keys log e c d = same-keys (since-only (starter (c .good)) (starter (d .good)) (c .since) (d .since)) (c .good) (d .good)
-
 -- what was heard before a start is no more than what was heard behind it
 heard-more : (log : Log) (e : Event) → length (heardOf log) ≤ length (heardOf (log ▷ e))
 unfolding heardOf
@@ -255,11 +210,6 @@ turn-behind n (x ∷ xs) ys (InTurn.behind p t) = subst (λ (k : ℕ). InTurn k 
 turn-first : {n : ℕ} {r : Report} {rs : List Report} → InTurn n (r ∷ rs) → r .first ≡ n
 turn-first (InTurn.behind p t) = p
 
-not-byte : (a : Event) → Starter a → isByte (a .kind) ≡ false
-unfolding isByte
-not-byte a (inl k) = ap isByte k
-not-byte a (inr k) = ap isByte k
-
 module _ (m : Machine) (D : Meets m) where
   grown : (es : Log) (e : Event) → namedIn (reportsOf m es) ≤ namedIn (reportsOf m (es ▷ e))
   unfolding reportsOf
@@ -280,13 +230,18 @@ module _ (m : Machine) (D : Meets m) where
         let r = ap namedIn (D .two .connects-names es e n c .reports) in
         omega (arith, named-append (reportsOf m es) (reportsTo m es e), r, none-named, since-heard (not-byte (c .start) (starter (c .good))) (c .since))
 
+  -- a report 3 is made where an initialization is completed
+  opened : (es : Log) (e : Event) (r : Report) → Among r (reportsTo m es e) → r .number ≡ connectedReport → OpenedBy es e r
+  opened = report-opens m (D .two .connects-exactly) (D .two .connects-names)
+
   -- no session lasts over a start of which no byte is named yet
   no-session : (es : Log) (t : Talk) (s : Event) (before bs : Log) → InBytes es → Session m es t → Starter s → Since s before (takenOf es) bs
       → namedIn (reportsOf m es) ≤ length (heardOf before) → ⊥
   unfolding InBytes
-  no-session es t s before bs b (opens {es = es1} {e = e} n c) st z h =
-      let y = subst (λ (l : Log). Since s before l bs) (log-taken es1 e n) z in
-      omega (arith, since-before y, all-named es1 e n c, h)
+  no-session es t s before bs b (opens {es = es1} {e = e} {r = r} a q) st z h =
+      let x = opened es1 e r a q in
+      let y = subst (λ (l : Log). Since s before l bs) (log-taken es1 e (x .number)) z in
+      omega (arith, since-before y, all-named es1 e (x .number) (x .connects), h)
   no-session es t s before bs b (lasts {es = es1} {e = e} {t = t1} x d) st z h =
       by-number (eqb (numberAfter (takenOf es1) e) taken) refl (λ cs y k. no-session es1 t1 s before cs (b .0) x st y k)
     where
@@ -304,16 +259,19 @@ module _ (m : Machine) (D : Meets m) where
           ⊎-elim (λ y. at-start q (subst Starter (y .0) st)) (λ y. f (y .bytes) (y .since) (omega (arith, grown es1 e, h)))
           (since-last (subst (λ (l : Log). Since s before l bs) (log-taken es1 e q) z))
 
-  not-both : (es : Log) (e : Event) (t : Talk) → InBytes es → numberAfter (takenOf es) e ≡ taken → Connects (takenOf es) e → Session m es t → ⊥
-  not-both es e t b n c x = no-session es t (c .start) (c .before) (c .bytes) b x (starter (c .good)) (c .since) (omega (arith, none-named es e n c))
+  not-both : (es : Log) (e : Event) (r : Report) (t : Talk) → InBytes es → OpenedBy es e r → Session m es t → ⊥
+  not-both es e r t b o x =
+      let c = o .connects in
+      no-session es t (c .start) (c .before) (c .bytes) b x (starter (c .good)) (c .since) (omega (arith, none-named es e (o .number) c))
 
   -- A HISTORY FIXES ITS TALK
   pub session-fixed : (es : Log) (j k : Talk) → InBytes es → Session m es j → Session m es k → j ≡ k
   unfolding InBytes
-  session-fixed es j k b (opens {es = es1} {e = e} n c) (opens o d) =
-      let q = connects-keys (takenOf es1) e c d in
-      λ i. opening (q .0 i) (q .1 i)
-  session-fixed es j k b (opens {es = es1} {e = e} n c) (lasts {t = t} y z) = absurd (not-both es1 e t (b .0) n c y)
-  session-fixed es j k b (lasts {es = es1} {e = e} {t = t} x w) (opens o d) = absurd (not-both es1 e t (b .0) o d x)
+  session-fixed es j k b (opens {es = es1} {e = e} {r = r} i n) (opens {r = s} o d) =
+      let x = opened es1 e r i n in
+      let same : r ≡ s = x .only ∙ sym (only-one (subst (Among s) (D .two .connects-names es1 e (x .number) (x .connects) .reports) o)) in
+      ap (λ (q : Report). openedBy (namedBy (heardIn (es1 ▷ e)) q)) same
+  session-fixed es j k b (opens {es = es1} {e = e} {r = r} i n) (lasts {t = t} y z) = absurd (not-both es1 e r t (b .0) (opened es1 e r i n) y)
+  session-fixed es j k b (lasts {es = es1} {e = e} {t = t} x w) (opens {r = s} o d) = absurd (not-both es1 e s t (b .0) (opened es1 e s o d) x)
   session-fixed es j k b (lasts {es = es1} {e = e} {t = t} x w) (lasts {t = u} y z) =
-      ap (λ (v : Talk). talkAfter v (e .side) (heardIn (es1 ▷ e)) (reportsTo m es1 e)) (session-fixed es1 t u (b .0) x y)
+      ap (λ (v : Talk). talkAfter v (takenOf (es1 ▷ e)) (reportsTo m es1 e)) (session-fixed es1 t u (b .0) x y)

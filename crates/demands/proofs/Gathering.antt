@@ -19,8 +19,8 @@ use Rattle.events.specs.declared.Kind.the-variants.{Byte}
 use Rattle.events.specs.declared.Event.{Event}
 use Rattle.talk.specs.Talk.{headReason, begun, laterReason, grown}
 use Rattle.talk.specs.declared.Message.{Message}
-use Rattle.demands.specs.Logs.{Log, none, _▷_, heardOf, heardIn, numberAfter, takenOf}
-use Rattle.demands.specs.Damage.{bytesOf, valuesOf}
+use Rattle.demands.specs.Logs.{Log, none, _▷_, heardOf, bytesOf, heardIn, numberAfter, takenOf}
+use Rattle.demands.specs.Damage.{valuesOf}
 
 -- ---- their values
 pub values-both : (l k : List Event) → valuesOf (l ++ k) ≡ valuesOf l ++ valuesOf k

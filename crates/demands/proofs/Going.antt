@@ -17,6 +17,7 @@ use Rattle.units.specs.declared.Micros.{Micros}
 use Rattle.keys.specs.Keys.{goodPair}
 use Rattle.timing.specs.Timing.{isPassed}
 use Rattle.frame.specs.Read.{readOf, dataOf}
+use Rattle.events.specs.declared.Side.{Side}
 use Rattle.events.specs.declared.Side.the-variants.{Unit}
 use Rattle.events.specs.declared.Event.{Event}
 use Rattle.starts.specs.Starts.{isOver}
@@ -35,13 +36,11 @@ use Rattle.reports.specs.declared.Report.{Report}
 use Rattle.reports.specs.declared.Run.{Run}
 use Rattle.link.specs.Handling.{passed}
 use Rattle.link.specs.Telling.{tells, passedTells}
-use Rattle.demands.specs.Endings.{Answers}
-use Rattle.demands.specs.Logs.{Log, _▷_, heardIn, takenOf, Begins, more}
+use Rattle.demands.specs.Logs.{Log, _▷_, bytesOf, heardIn, takenOf, Begins, more}
 use Rattle.demands.specs.Refusals.{Not}
-use Rattle.demands.specs.Histories.{isAmong, Tells}
+use Rattle.demands.specs.Histories.{isAmong, Among, Tells}
 use Rattle.demands.specs.Accounts.{namedBy}
 use Rattle.demands.specs.Sessions.{Frames, stops, pendingIn, Talk, afterReport, talkAfter, inForce, gapBefore, Stray, Early}
-use Rattle.demands.specs.Damage.{bytesOf}
 use Rattle.demands.proofs.Gathering.{talkBehind, talkReason, same-events}
 use Rattle.demands.proofs.Behind.{FirstOf, Speaking, Finishes, Turned}
 use Rattle.demands.proofs.Carrying.{Kept, GoneOn}
@@ -155,6 +154,14 @@ never-starting Held c s = false≢true s
 never-starting Damage c s = false≢true s
 
 -- ---- what is shown of a report of an event
+-- among these reports of an event from this side is a frame from the unit that answers a stop
+pub record Answers (kb1 kb2 : ℕ) (fs : Frames) (side : Side) (heard : List ℕ) (rs : List Report) : Type 0 where
+  pub report : Report
+  pub made : Among report rs
+  pub number : report .number ≡ frameReport
+  pub unit : side ≡ Unit
+  pub stop : stops (pendingIn kb1 kb2 fs) (dataOf kb1 kb2 (namedBy heard report)) ≡ true
+
 -- a report of the event e behind es, in a session with these key bytes and these frames; `all` are the event's reports
 pub record Shows (es : Log) (e : Event) (kb1 kb2 : ℕ) (fs : Frames) (all : List Report) (x : Report) : Type 0 where
   pub reads : x .number ≡ frameReport → readOf kb1 kb2 (namedBy (heardIn (es ▷ e)) x) .no ≡ taken
@@ -174,7 +181,7 @@ module _ (es : Log) (e : Event) (all : List Report) where
   Told t x = Shows es e (t .kb1) (t .kb2) (t .frames) all x
 
   abbrev pub talked : Talk → List Report → Talk
-  talked t rs = talkAfter t (e .side) (heardIn (es ▷ e)) rs
+  talked t rs = talkAfter t (takenOf (es ▷ e)) rs
 
   -- of most reports nothing is to be shown
   pub plain : (t : Talk) (x : Report) → (x .number ≡ frameReport → ⊥) → (x .number ≡ damageReport → ⊥)
@@ -338,7 +345,7 @@ module _ (es : Log) (e : Event) (all : List Report) where
 
   pub talked-both : (t : Talk) (reply : Reply) (rs ss : List Report) → talked t rs ≡ withReply t reply
       → talked t (rs ++ ss) ≡ talked (withReply t reply) ss
-  talked-both t reply rs ss q = talk-both t (e .side) (heardIn (es ▷ e)) rs ss ∙ ap (λ (u : Talk). talked u ss) q
+  talked-both t reply rs ss q = talk-both t (takenOf (es ▷ e)) rs ss ∙ ap (λ (u : Talk). talked u ss) q
 
   pub next : (t : Talk) (rs : List Report) (r : Run) (m : Move) → Passes t rs r
       → ((u : Talk) → At es u (r .phase) (r .named) (r .heard) → Passes u (tells r m) (moved r m)) → (r .phase ≡ down → Rests r m)

@@ -47,15 +47,14 @@ use Rattle.reports.specs.declared.Report.{Report}
 use Rattle.reports.specs.declared.Run.{Run}
 use Rattle.link.specs.Handling.{hearing, byteHeard}
 use Rattle.link.specs.Telling.{tells, byteTells}
-use Rattle.demands.specs.Logs.{Log, _▷_, markOf, heardIn, numberAfter, takenOf, whole, more}
+use Rattle.demands.specs.Logs.{Log, _▷_, markOf, bytesOf, heardIn, numberAfter, takenOf, whole, more}
 use Rattle.demands.specs.Histories.{after, isAmong, Among, first, later, Tells}
-use Rattle.demands.specs.Accounts.{namedBy}
+use Rattle.demands.specs.Accounts.{namedBy, bytesNamed}
 use Rattle.demands.specs.Sessions.{Frame, Frames, _▸_, stops, resets, retimes, codesIn, pendingIn, windowsIn, Talk, afterReport}
-use Rattle.demands.specs.Sessions.{talkAfter, Session, inForce, gapBefore, Stray, Early}
+use Rattle.demands.specs.Sessions.{lastSide, frameNamed, talkAfter, Session, inForce, gapBefore, Stray, Early}
 use Rattle.demands.proofs.Carrying.{Carries, Kept, begun as gone-none, on, gone-by, gone-ends, ends-now, kept-asked, message-carries}
 use Rattle.demands.proofs.Carrying.{reply-windows, reply-request, reply-stops}
 use Rattle.demands.specs.Messages.{InTime}
-use Rattle.demands.specs.Damage.{bytesOf}
 use Rattle.demands.proofs.Gathering.{talkBehind, talkReason, same-length, byte-events, head-wrong, head-right, later-wrong, later-right}
 use Rattle.demands.proofs.Behind.{FirstOf, Speaking, begins, grows}
 use Rattle.demands.proofs.Tiling.{sum-is}
@@ -107,7 +106,7 @@ request-not : (m : Message) → isStopped (requestOf m) ≡ false
 unfolding requestOf isStopped
 request-not m =
     by-test (λ (q : Request). isStopped q ≡ false) (eqb (m .first) 0x82) {x = Stop} (λ _. refl)
-    (λ _. by-test (λ (q : Request). isStopped q ≡ false) (isExactly m 0x8301) {x = OwnTiming} (λ _. refl)
+    (λ _. by-test (λ (q : Request). isStopped q ≡ false) (isExactly m (0x83 ∷ 0x01 ∷ [])) {x = OwnTiming} (λ _. refl)
     (λ _. by-test (λ (q : Request). isStopped q ≡ false) (asksCodes m) {x = NewTiming} {y = Ordinary} (λ _. refl) (λ _. refl)))
 
 -- a frame more: what is pending, and the windows in force
@@ -135,6 +134,13 @@ pending-answered : (kb1 kb2 : ℕ) (fs : Frames) (f : Frame) → isTester (f .si
     ≡ pendingBy (pendingIn kb1 kb2 fs) (dataOf kb1 kb2 (f .bytes))
 unfolding pendingIn
 pending-answered kb1 kb2 fs f c = rw c
+
+-- whose the last of bytes is
+side-last : (l : List Event) (e : Event) → lastSide (l ++ (e ∷ [])) ≡ e .side
+unfolding lastSide
+side-last [] e = refl
+side-last (b ∷ []) e = refl
+side-last (b ∷ c ∷ l) e = side-last (c ∷ l) e
 
 -- ---- a byte e, behind es
 module _ (es : Log) (e : Event) (all : List Report) (kind : e .kind ≡ Byte) (number : numberAfter (takenOf es) e ≡ taken)
@@ -442,6 +448,20 @@ module _ (es : Log) (e : Event) (all : List Report) (kind : e .kind ≡ Byte) (n
           let more = heard-more (r .heard) (a .bytes) in
           ap (take (countSum (r .heard) 1 - r .named)) slice-is ∙ take-all (countSum (r .heard) 1 - r .named) slice (omega arith)
 
+      -- and this byte is the last of them
+      abbrev fr : Frame
+      fr = frameNamed (takenOf (es ▷ e)) x
+
+      whose : fr .side ≡ e .side
+      unfolding bytesNamed reportOf namesBytes
+      whose =
+          let size = countSum (r .heard) 1 - r .named in
+          let front = drop (r .named) (bytesOf (takenOf es)) in
+          let one = one-event t (r .phase) (r .named) o in
+          let enough : length (front ++ (e ∷ [])) ≤ size
+          = omega (arith, heard-more (r .heard) (a .bytes), same-length (takenOf (es ▷ e)), ap length one, length-drop (r .named) (bytesOf (takenOf (es ▷ e)))) in
+          ap (λ (l : List Event). lastSide (take size l)) one ∙ ap lastSide (take-all size (front ++ (e ∷ [])) enough) ∙ side-last front e
+
       slice-byte : (i : ℕ) → getD slice i 0 < 256
       slice-byte i = subst (λ (l : List ℕ). getD l i 0 < 256) slice-is (rw (getD-drop (r .named) (heardIn (es ▷ e)) i 0) (byte (r .named + i)))
 
@@ -470,15 +490,14 @@ module _ (es : Log) (e : Event) (all : List Report) (kind : e .kind ≡ Byte) (n
       withFrame = record {
         kb1 = t .kb1;
         kb2 = t .kb2;
-        frames = t .frames ▸ record { side = e .side; bytes = framedBytes };
-        reply = if isTester (e .side) then First else Further;
+        frames = t .frames ▸ fr;
+        reply = if isTester (fr .side) then First else Further;
       }
 
-      asked-fits : isTester (e .side) ≡ true → Fits withFrame (asked (r .phase))
+      asked-fits : isTester (fr .side) ≡ true → Fits withFrame (asked (r .phase))
       unfolding asked timed talking isConnected
       asked-fits c =
           let f = a .fits in
-          let fr : Frame = record { side = e .side; bytes = framedBytes } in
           let d = dataOf (t .kb1) (t .kb2) framedBytes in
           record {
             connected = refl;
@@ -491,12 +510,11 @@ module _ (es : Log) (e : Event) (all : List Report) (kind : e .kind ≡ Byte) (n
                 (kept-asked (r .phase .message) d carries);
           }
 
-      answered-fits : isTester (e .side) ≡ false → stops latest (dataOf (t .kb1) (t .kb2) framedBytes) ≡ false → Fits withFrame (answered (r .phase))
+      answered-fits : isTester (fr .side) ≡ false → stops latest (dataOf (t .kb1) (t .kb2) framedBytes) ≡ false → Fits withFrame (answered (r .phase))
       unfolding answered timed talking isConnected
       answered-fits c z =
           let f = a .fits in
           let p = r .phase in
-          let fr : Frame = record { side = e .side; bytes = framedBytes } in
           let d = dataOf (t .kb1) (t .kb2) framedBytes in
           record {
             connected = refl;
@@ -606,7 +624,7 @@ module _ (es : Log) (e : Event) (all : List Report) (kind : e .kind ≡ Byte) (n
       unfolding asked timed talking
       frame-asked c =
           frame-by (asked (r .phase)) refl (λ s. absurd (false≢true (sym (request-not (r .phase .message)) ∙ s)))
-          (λ _. (asked-fits c, λ u _. tester-unit (e .side) c u))
+          (λ _. (asked-fits (ap isTester whose ∙ c), λ u _. tester-unit (e .side) c u))
 
       frame-answered : isTester (e .side) ≡ false → Heard t r (makes frameReport noReason (answered (r .phase)))
       unfolding answered timed talking
@@ -615,7 +633,7 @@ module _ (es : Log) (e : Event) (all : List Report) (kind : e .kind ≡ Byte) (n
           let d = dataOf (t .kb1) (t .kb2) framedBytes in
           let k = reply-stops (p .request) (p .asked) latest d (p .message) (a .fits .kept) carries in
           frame-by (answered p) refl (λ s. (unit-side (e .side) c sided, sym k ∙ s))
-          (λ s. (answered-fits c (sym k ∙ s), λ _ z. false≢true (sym s ∙ (k ∙ z))))
+          (λ s. (answered-fits (ap isTester whose ∙ c) (sym k ∙ s), λ _ z. false≢true (sym s ∙ (k ∙ z))))
 
       frame-ends : Heard t r (makes frameReport noReason (framed (r .phase)))
       unfolding framed

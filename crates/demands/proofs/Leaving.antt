@@ -23,7 +23,7 @@ use Rattle.phases.specs.declared.Phase.{Phase}
 use Rattle.moves.specs.Moves.{isIdle, isGoodLow}
 use Rattle.link.specs.declared.Link.{Link}
 use Rattle.listing.specs.Listing.{heldOf}
-use Rattle.link.proofs.Long.{quiet-connected}
+use Rattle.phases.proofs.StateTests.{quiet-connected}
 use Rattle.demands.specs.Logs.{Log, markOf, numberAfter, takenOf, InBytes}
 use Rattle.demands.specs.Refusals.{Not}
 use Rattle.demands.specs.Histories.{after, reportsTo, Says, Tells}

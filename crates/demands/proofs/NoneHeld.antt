@@ -2,7 +2,7 @@
 use mathlib.Core.Bool.{Bool, true, false}
 use mathlib.Core.Path.{_≡_, refl}
 use Rattle.phases.specs.Phases.{isStarting, isOpen}
-use Rattle.link.proofs.Long.{open-connected}
+use Rattle.phases.proofs.StateTests.{open-connected}
 use Rattle.demands.specs.Logs.{Log, InBytes}
 use Rattle.demands.specs.Refusals.{Not}
 use Rattle.demands.specs.Histories.{after}

@@ -1,6 +1,6 @@
 -- The first byte of a message by the session before it. What its event reports of the time before it leaves the session with the reply that `replyAt`
 -- says, and names all bytes before it and no other (`opening`); and each byte that a message of the link starts with opens one in this sense (`came`).
--- So reports 1 and 2 are told by the history before the first byte (`frames-exactly`, `turns-exactly`).
+-- So reports 1 and 2 are told by the history before the first byte (`frames-exactly`, `turns-exactly`), and so is a stop (`stops-exactly`).
 -- Assumes nothing.
 use Prim.Native.Nat.{ℕ, _<_}
 use mathlib.Core.Bool.{Bool, true, false, _&&_, false≢true}
@@ -12,10 +12,12 @@ use borrow.Author.Tests.{ltb-true, lt-ltb}
 use lib.ListN.{length}
 use Rattle.base.specs.Choice.{if_then_else_}
 use Rattle.base.specs.Numbers.{taken}
-use Rattle.base.specs.Reports.{frameReport, damageReport, downReport, idleOver, early, stray}
+use Rattle.base.specs.Reports.{frameReport, damageReport, downReport, stopped, idleOver, early, stray}
 use Rattle.units.specs.Units.{gapOf}
 use Rattle.units.specs.declared.Micros.{Micros}
 use Rattle.timing.specs.Timing.{isPassed}
+use Rattle.frame.specs.Read.{dataOf}
+use Rattle.events.specs.Events.{isByte}
 use Rattle.events.specs.declared.Kind.{Kind}
 use Rattle.events.specs.declared.Kind.the-variants.{Byte}
 use Rattle.events.specs.declared.Event.{Event}
@@ -33,24 +35,26 @@ use Rattle.link.specs.declared.Link.{Link}
 use Rattle.link.specs.declared.Answer.{Answer}
 use Rattle.link.specs.Telling.{passedTells, actedTells, handledTells}
 use Rattle.demands.specs.Logs.{Log, _▷_, heardIn, numberAfter, takenOf, InBytes, Begins, whole, more}
-use Rattle.demands.specs.Histories.{after, reportsTo, Says, isAmong, Among}
+use Rattle.demands.specs.Histories.{after, reportsTo, Says, isAmong, Among, Tells}
 use Rattle.demands.specs.Accounts.{heldIn}
 use Rattle.demands.specs.Connecting.{Connects}
-use Rattle.demands.specs.Sessions.{Talk, talkAfter, Session, opens, lasts, inForce, gapBefore, OpensIn, replyAt, Early, Stray, Turns}
+use Rattle.demands.specs.Sessions.{stops, pendingIn, Talk, talkAfter, Session, opens, lasts, inForce, gapBefore, OpensIn, replyAt, Early, Stray, Turns}
 use Rattle.demands.specs.Messages.{Speaks, begins, refused, waits, grows, EndsInFrame, ReportsFrame}
+use Rattle.demands.specs.Endings.{AnswersStop}
 use Rattle.listing.specs.Listing.{heldOf}
 use Rattle.demands.proofs.Holding.{holds-some}
 use Rattle.demands.proofs.Tiling.{sum-is}
 use Rattle.demands.proofs.Invariant.{kept-of}
 use Rattle.demands.proofs.Basics.{basics, held-is, answer-taken, calm}
 use Rattle.demands.proofs.Names.{connects-link}
+use Rattle.demands.proofs.KeyBytes.{ours-opens}
 use Rattle.demands.proofs.Completing.{acted-byte}
 use Rattle.demands.proofs.Listening.{byte-longer}
 use Rattle.demands.proofs.Recent.{open-stays}
 use Rattle.demands.proofs.Behind as inner
 use Rattle.demands.proofs.Going.{withReply, Passes, up, gone, passed-step}
 use Rattle.demands.proofs.Course.{AtLink, session-at}
-use Rattle.demands.proofs.Reporting.{turns-behind}
+use Rattle.demands.proofs.Reporting.{turns-behind, stops-behind}
 use Rattle.demands.proofs.Speaking.{frames-behind}
 use Rattle.demands.proofs.Finding.{reports-made, tells-says}
 use Rattle.demands.proofs.Passing.{Idled, open-or}
@@ -84,7 +88,7 @@ down-loud p q = ap (λ (x : Phase). isQuiet (x .state)) q
 -- ---- what opening a message is, by the reports of the byte's event
 pub record Opening (before : Log) (b : Event) (t : Talk) : Type 0 where
   pub up : isAmong downReport (reportsTo ours before b) ≡ false
-  pub talk : talkAfter t (b .side) (heardIn (before ▷ b)) (reportsTo ours before b) ≡ withReply t (replyOf before b t)
+  pub talk : talkAfter t (takenOf (before ▷ b)) (reportsTo ours before b) ≡ withReply t (replyOf before b t)
   pub alone : after ours (before ▷ b) .link .named ≡ length (heardIn before)
 
 module _ (before : Log) (b : Event) (t : Talk) (i : InBytes before) (o : OpensIn ours before b t) where
@@ -174,7 +178,7 @@ module _ (before : Log) (b : Event) (t : Talk) (i : InBytes before) (o : OpensIn
       by-way : Passes before b (reportsTo ours before b) t passing s → Opening before b t
       by-way (up reply n f q a) = record {
         up = ap (isAmong downReport) reports-are ∙ n;
-        talk = ap (talkAfter t (b .side) (heardIn (before ▷ b))) reports-are ∙ q ∙ ap (withReply t) (sym (a .fits .reply) ∙ left .reply);
+        talk = ap (talkAfter t (takenOf (before ▷ b))) reports-are ∙ q ∙ ap (withReply t) (sym (a .fits .reply) ∙ left .reply);
         alone = named-is ∙ a .calm (left .quiet) ∙ a .bytes;
       }
       by-way (gone n f q) = absurd (false≢true (sym (down-loud (s .phase) q) ∙ left .quiet))
@@ -253,7 +257,9 @@ module _ (before : Log) (b : Event) (t : Talk) (i : InBytes before) (session : S
 
 came-by : (before : Log) (b : Event) (u : Talk) → InBytes before → Session ours (before ▷ b) u → b .kind ≡ Byte → numberAfter (takenOf before) b ≡ taken
     → after ours (before ▷ b) .link .named ≡ length (heardIn before) → Came before b u
-came-by before b u i (opens n c) k m a = absurd (not-connecting before b m k (connected-quiet before b n c) a)
+came-by before b u i (opens {r = r} w n) k m a =
+    let x = ours-opens before b r w n in
+    absurd (not-connecting before b m k (connected-quiet before b (x .number) (x .connects)) a)
 came-by before b u i (lasts {t = t} front stays) k m a =
     let o = opened-in before b t i front stays k m a in
     record { talk = t; opens = o; same = opening before b t i o .talk }
@@ -337,4 +343,29 @@ frames-exactly es e bytes i = (
       let m = heard i (x .message) in
       frames-behind es e bytes i .1
       (record { talk = withReply (x .talk) (m .reply); first = x .first; message = m .spoken; kind = x .kind; number = x .number; read = x .read }),
+)
+
+-- ---- THE LINK IS STOPPED exactly by a message of the unit that ends in a frame and answers a stop
+-- a message's bytes come from one side
+speaks-side : {t : Talk} {b e : Event} {es : Log} {bytes : List ℕ} → Speaks ours t b (es ▷ e) bytes → e .kind ≡ Byte → numberAfter (takenOf es) e ≡ taken
+    → e .side ≡ b .side
+unfolding isByte
+speaks-side (begins o) k n = refl
+speaks-side (refused s x) k n = absurd (x n)
+speaks-side (waits s x t i) k n = absurd (false≢true (sym (ap isByte t) ∙ ap isByte k))
+speaks-side (grows s r x y d i) k n = d
+
+pub stops-exactly : (es : Log) (e : Event) (t : Talk) → InBytes (es ▷ e) → Session ours es t
+    → Tells downReport stopped (reportsTo ours es e) ↔ AnswersStop ours t es e
+stops-exactly es e t i s = (
+  λ x.
+      let a = stops-behind es e t i s .0 x in
+      let f = frames-exactly es e _ i .0 (record { report = a .report; made = a .made; number = a .number; names = refl }) in
+      record { bytes = _; ends = f; unit = sym (speaks-side (f .message) (f .kind) (f .number)) ∙ a .unit; stop = a .stop },
+  λ x.
+      let f = x .ends in
+      let r = frames-exactly es e (x .bytes) i .1 f in
+      let stop = ap (λ (l : List ℕ). stops (pendingIn (t .kb1) (t .kb2) (t .frames)) (dataOf (t .kb1) (t .kb2) l)) (r .names) ∙ x .stop in
+      stops-behind es e t i s .1
+      (record { report = r .report; made = r .made; number = r .number; unit = speaks-side (f .message) (f .kind) (f .number) ∙ x .unit; stop = stop }),
 )

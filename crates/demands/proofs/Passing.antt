@@ -24,7 +24,8 @@ use Rattle.reports.specs.declared.Report.{Report}
 use Rattle.reports.specs.declared.Run.{Run}
 use Rattle.link.specs.Handling.{passed}
 use Rattle.link.specs.Telling.{tells, passedTells}
-use Rattle.link.proofs.Long.{Long, open-connected, quiet-connected}
+use Rattle.phases.proofs.StateTests.{open-connected, quiet-connected}
+use Rattle.link.proofs.Long.{Long}
 use Rattle.demands.specs.Histories.{Tells}
 use Rattle.demands.proofs.Tiling.{moved-phase}
 use Rattle.demands.proofs.Saying.{each-both}

@@ -11,14 +11,13 @@ use Rattle.events.specs.declared.Event.{Event}
 use Rattle.phases.specs.Phases.{isConnected}
 use Rattle.reports.specs.declared.Report.{Report}
 use Rattle.reports.specs.declared.Run.{Run}
-use Rattle.demands.specs.Endings.{AnswersStop}
 use Rattle.demands.specs.Logs.{Log, _▷_, heardIn, InBytes}
 use Rattle.demands.specs.Histories.{after, reportsTo, Among, Tells}
 use Rattle.demands.specs.Accounts.{namedBy}
 use Rattle.demands.specs.Sessions.{Talk, Session, Reads, SomeSession}
 use Rattle.demands.proofs.Behind.{Finishes, Turned}
 use Rattle.demands.proofs.Saying.{Each}
-use Rattle.demands.proofs.Going.{Told}
+use Rattle.demands.proofs.Going.{Answers, Told}
 use Rattle.demands.proofs.Closing.{Ends, still-up, over}
 use Rattle.demands.proofs.Course.{event-ends, session-at}
 use Rattle.demands.proofs.Session.{session-exactly}
@@ -66,10 +65,10 @@ turns-behind es e r b i n =
     let x = comes-in es e r b i n in
     told-in es e (x .talk) b (x .session) r i .turns n
 
--- THE LINK IS STOPPED exactly by a unit frame that answers a stop
-pub stops-exactly : (es : Log) (e : Event) (t : Talk) → InBytes (es ▷ e) → Session ours es t
-    → Tells downReport stopped (reportsTo ours es e) ↔ AnswersStop ours t es e
-stops-exactly es e t b s = (
+-- the link is stopped exactly by a unit frame that answers a stop, by its report (`stops-exactly` in `Opening`)
+pub stops-behind : (es : Log) (e : Event) (t : Talk) → InBytes (es ▷ e) → Session ours es t
+    → Tells downReport stopped (reportsTo ours es e) ↔ Answers (t .kb1) (t .kb2) (t .frames) (e .side) (heardIn (es ▷ e)) (reportsTo ours es e)
+stops-behind es e t b s = (
   λ x. told-in es e t b s (x .report) (x .made) .answers (x .number-is) (x .reason-is),
   λ x. told-in es e t b s (x .report) (x .made) .stops (x .number) (x .unit) (x .stop),
 )

@@ -5,8 +5,8 @@ use mathlib.Core.List.{List, [], _∷_, _++_}
 use mathlib.Core.Path.{_≡_, refl, sym, ap, _∙_}
 use mathlib.Core.Logic.{_⊎_, inl, inr, ⊎-elim}
 use lib.Dec.{eqb}
-use Rattle.events.specs.declared.Side.{Side}
 use Rattle.reports.specs.declared.Report.{Report}
+use Rattle.demands.specs.Logs.{Log}
 use Rattle.demands.specs.Histories.{isAmong, Among, first, later}
 use Rattle.demands.specs.Sessions.{Talk, afterReport, talkAfter}
 
@@ -53,8 +53,7 @@ says-both number (r ∷ rs) ss =
     ∙ sym (or-assoc (eqb (r .number) number) (isAmong number rs) (isAmong number ss))
 
 -- ---- what they make of a talk
-pub talk-both : (t : Talk) (side : Side) (heard : List ℕ) (rs ss : List Report)
-    → talkAfter t side heard (rs ++ ss) ≡ talkAfter (talkAfter t side heard rs) side heard ss
+pub talk-both : (t : Talk) (log : Log) (rs ss : List Report) → talkAfter t log (rs ++ ss) ≡ talkAfter (talkAfter t log rs) log ss
 unfolding talkAfter
-talk-both t side heard [] ss = refl
-talk-both t side heard (r ∷ rs) ss = talk-both (afterReport t side heard r) side heard rs ss
+talk-both t log [] ss = refl
+talk-both t log (r ∷ rs) ss = talk-both (afterReport t log r) log rs ss

@@ -15,6 +15,7 @@ use Rattle.demands.specs.Logs.{Log, none, _▷_, InBytes}
 use Rattle.demands.specs.Histories.{after, reportsTo, Says}
 use Rattle.demands.specs.Sessions.{Talk, Session, opens, lasts, SomeSession}
 use Rattle.demands.proofs.Becomes.{becomes-connected-exactly}
+use Rattle.demands.proofs.KeyBytes.{ours-made}
 use Rattle.demands.proofs.Closing.{Ends, still-up, over}
 use Rattle.demands.proofs.Course.{event-ends, session-at}
 use Rattle.demands.specs.Ours.{ours}
@@ -44,7 +45,7 @@ last-event es e b true c f n =
     }
 last-event es e b false c f n =
     let x = becomes-connected-exactly es e .0 (c, n) in
-    record { talk = _; session = opens (x .0) (x .1) }
+    record { talk = _; session = opens (ours-made es e (x .0) (x .1)) refl }
 
 connected-session : (es : Log) → InBytes es → isConnected (after ours es .link .phase .state) ≡ true → SomeSession ours es
 unfolding InBytes after freshLink down isConnected

@@ -111,7 +111,7 @@ taken-unmoved es e r n h s m =
 session-on : (es : Log) (e : Event) (t : Talk) (q : Phase) → Unmoved es e q → Session ours es t → Session ours (es ▷ e) t
 unfolding talkAfter isAmong
 session-on es e t q u s =
-    subst (λ (rs : List Report). Session ours (es ▷ e) (talkAfter t (e .side) (heardIn (es ▷ e)) rs)) (u .silent)
+    subst (λ (rs : List Report). Session ours (es ▷ e) (talkAfter t (takenOf (es ▷ e)) rs)) (u .silent)
     (lasts s (λ z. false≢true (subst (λ (rs : List Report). isAmong downReport rs ≡ true) (u .silent) z)))
 
 -- ---- the link holds a message

@@ -35,7 +35,7 @@ use Rattle.link.specs.declared.Link.{Link}
 use Rattle.link.specs.declared.Answer.{Answer}
 use Rattle.link.specs.Telling.{tells, passedTells, shutTells, byteTells, actedTells, handledTells}
 use Rattle.link.proofs.Three.{three-enough}
-use Rattle.link.proofs.Long.{open-connected, quiet-connected}
+use Rattle.phases.proofs.StateTests.{open-connected, quiet-connected}
 use Rattle.demands.specs.Logs.{Log, numberAfter, takenOf}
 use Rattle.demands.specs.Histories.{after, reportsTo}
 use Rattle.demands.proofs.Basics.{answer-taken, answer-refused}

@@ -16,6 +16,10 @@ use Rattle.demands.specs.Histories.{Machine, after, reportsTo, reportsOf
 unfoldable pub namedBy : List ℕ → Report → List ℕ
 namedBy heard r = take (r .bytes) (drop (r .first) heard)
 
+-- the same bytes, as events
+unfoldable pub bytesNamed : List Event → Report → List Event
+bytesNamed heard r = take (r .bytes) (drop (r .first) heard)
+
 -- the bytes that reports name, in order
 unfoldable pub allNamed : List ℕ → List Report → List ℕ
 allNamed heard [] = []

@@ -6,30 +6,22 @@ use mathlib.Core.Bool.{Bool, not, _&&_}
 use mathlib.Core.List.{List, [], _∷_, _++_}
 use mathlib.Core.Path.{_≡_}
 use lib.Dec.{eqb, leb}
-use lib.ListN.{length, take, drop}
+use lib.ListN.{length}
 use Rattle.base.specs.Choice.{if_then_else_}
 use Rattle.base.specs.Reports.{noReason, brokenOff, closed, modeOne, wrongForm, otherSide, wrongLength, wrongSum}
 use Rattle.units.specs.declared.Micros.{Micros}
 use Rattle.keys.specs.Keys.{lengthInFormat, extraLength, noAddresses, withAddresses, isExtended}
 use Rattle.frame.specs.Layout.{total}
-use Rattle.events.specs.Events.{isByte, sameSide}
+use Rattle.events.specs.Events.{sameSide}
 use Rattle.events.specs.declared.Side.{Side}
 use Rattle.events.specs.declared.Event.{Event}
 use Rattle.reports.specs.declared.Report.{Report}
-use Rattle.demands.specs.Logs.{Log, none, _▷_, takenOf}
+use Rattle.demands.specs.Logs.{Log, _▷_, bytesOf, takenOf}
 use Rattle.demands.specs.Refusals.{Not}
 use Rattle.demands.specs.Frames.{lowSix, addressesIn, sizeSaid}
 use Rattle.demands.specs.Histories.{Machine}
+use Rattle.demands.specs.Accounts.{bytesNamed}
 use Rattle.demands.specs.Sessions.{Turns, gapBefore, EarlyAt, StrayAt}
-
--- the bytes heard, as events (`heardOf` gives their values)
-unfoldable pub bytesOf : Log → List Event
-bytesOf none = []
-bytesOf (log ▷ e) = bytesOf log ++ (if isByte (e .kind) then e ∷ [] else [])
-
--- those that a report names (`namedBy` gives their values)
-unfoldable pub bytesNamed : List Event → Report → List Event
-bytesNamed heard r = take (r .bytes) (drop (r .first) heard)
 
 -- ---- THE REASON THAT BYTES GIVE, of a message or of what would be one, by their values and sides and by KB1
 -- "Then mode 01 (5), form not announced or functional under extended timing (6), a length place KB1 doesn't announce (8).": the first byte, of this value

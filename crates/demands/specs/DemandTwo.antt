@@ -83,9 +83,9 @@ pub record DemandTwo (m : Machine) : Type 0 where
   pub connects-names : (es : Log) (e : Event) → numberAfter (takenOf es) e ≡ taken → (c : Connects (takenOf es) e)
       → Connected (takenOf es) e c (reportsTo m es e)
   -- ---- c. WHAT THE LINK REPORTS AS 1 is a frame that `read` takes, and its timing is the one that the frames say
-  -- A session of the history lasts from an event that completes an initialization until a report 7. Its windows are KB1's set, the allowed codes of the
-  -- latest tester frame, or as before, as `windowsIn` reads it off the session's frames; the reply that may come is the one that its last report leaves.
-  -- (`InBytes`: values of events are bytes, as they are in the code.)
+  -- A session of the history lasts from a report 3 until a report 7, with the key bytes among the bytes that the report 3 names. Its windows are KB1's set,
+  -- the allowed codes of the latest tester frame, or as before, as `windowsIn` reads it off the session's frames; the reply that may come is the one that its
+  -- last report leaves. (`InBytes`: values of events are bytes, as they are in the code.)
   -- Each report 1 is made in a session and names bytes that `read` takes as a frame under the session's key bytes.
   pub frames-read : (es : Log) (e : Event) (r : Report) → InBytes (es ▷ e) → Among r (reportsTo m es e) → r .number ≡ frameReport → Reads m es e r
   -- And the other way round: a report 1 names these bytes exactly if the event is the byte that ends a message of the session in them. A message goes from

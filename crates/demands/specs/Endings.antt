@@ -7,19 +7,18 @@ use mathlib.Core.List.{List}
 use mathlib.Core.Path.{_≡_}
 use mathlib.Core.Logic.{_↔_, _⊎_}
 use Rattle.base.specs.Numbers.{taken}
-use Rattle.base.specs.Reports.{frameReport, connectedReport, failedReport, downReport, idleOver, dropped, restarted}
+use Rattle.base.specs.Reports.{connectedReport, failedReport, downReport, idleOver, dropped, restarted}
 use Rattle.events.specs.declared.Kind.the-variants.{Address, WakeUp, Drop}
 use Rattle.frame.specs.Read.{dataOf}
-use Rattle.events.specs.declared.Side.{Side}
 use Rattle.events.specs.declared.Side.the-variants.{Unit}
 use Rattle.events.specs.declared.Event.{Event}
-use Rattle.reports.specs.declared.Report.{Report}
-use Rattle.demands.specs.Logs.{Log, _▷_, markOf, numberAfter, takenOf, heardIn}
+use Rattle.demands.specs.Logs.{Log, _▷_, markOf, numberAfter, takenOf}
 use Rattle.demands.specs.Refusals.{Not}
-use Rattle.demands.specs.Histories.{Machine, reportsTo, Says, Among, Tells}
+use Rattle.demands.specs.Histories.{Machine, reportsTo, Says, Tells}
 use Rattle.demands.specs.Starts.{Low}
-use Rattle.demands.specs.Accounts.{namedBy, heldIn}
-use Rattle.demands.specs.Sessions.{Frames, stops, pendingIn, Talk, gapBefore, IdleOver}
+use Rattle.demands.specs.Accounts.{heldIn}
+use Rattle.demands.specs.Sessions.{stops, pendingIn, Talk, gapBefore, IdleOver}
+use Rattle.demands.specs.Messages.{EndsInFrame}
 
 -- A or W
 abbrev pub Starter : Event → Type 0
@@ -42,19 +41,13 @@ pub data Starting (m : Machine) : Log → Type 0 where
       → Starting m (es ▷ e)
 
 -- ---- what ends a session
--- "a unit frame starting C2 after a tester frame starting 82": among these reports of an event from this side is a frame from the unit that answers a
--- stop, by its data and that of the latest tester frame. (Key bytes and frames are those of the session so far; the frame's bytes are among those
--- heard up to the event.)
-pub record Answers (kb1 kb2 : ℕ) (fs : Frames) (side : Side) (heard : List ℕ) (rs : List Report) : Type 0 where
-  pub report : Report
-  pub made : Among report rs
-  pub number : report .number ≡ frameReport
-  pub unit : side ≡ Unit
-  pub stop : stops (pendingIn kb1 kb2 fs) (dataOf kb1 kb2 (namedBy heard report)) ≡ true
-
--- in the session t, behind es, the event e is reported as such a frame
-abbrev pub AnswersStop : Machine → Talk → Log → Event → Type 0
-AnswersStop m t es e = Answers (t .kb1) (t .kb2) (t .frames) (e .side) (heardIn (es ▷ e)) (reportsTo m es e)
+-- "a unit frame starting C2 after a tester frame starting 82": in the session t, behind es, the event e ends a message of the unit in a frame that answers a
+-- stop, by its data and that of the latest tester frame
+pub record AnswersStop (m : Machine) (t : Talk) (es : Log) (e : Event) : Type 0 where
+  pub bytes : List ℕ
+  pub ends : EndsInFrame m es e bytes
+  pub unit : ends .first .side ≡ Unit
+  pub stop : stops (pendingIn (t .kb1) (t .kb2) (t .frames)) (dataOf (t .kb1) (t .kb2) bytes) ≡ true
 
 -- report 7 and its reasons, in the session t: 2 "no first reply awaited, P3 max passed"; "if connected, report 7 (reason 4 for A or W, 3 for D)". (Reason
 -- 1 is for a stop that the unit answers: `stops-exactly`.)

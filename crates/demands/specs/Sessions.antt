@@ -2,7 +2,7 @@
 -- ends in it; and the first byte of a message, told by the events before it.
 -- (document 01, "Connected." and "By their data")
 -- Assumes nothing.
-use Prim.Native.Nat.{ℕ, _<_}
+use Prim.Native.Nat.{ℕ, suc, _-_, _<_}
 use mathlib.Core.Bool.{Bool, true, false, _&&_, _||_}
 use mathlib.Core.List.{List, [], _∷_}
 use mathlib.Core.Path.{_≡_}
@@ -11,7 +11,7 @@ use lib.Dec.{eqb, ltb}
 use lib.ListN.{length, getD}
 use Rattle.base.specs.Choice.{if_then_else_}
 use Rattle.base.specs.Numbers.{taken}
-use Rattle.base.specs.Reports.{frameReport, damageReport, noReplyReport, downReport, early, stray}
+use Rattle.base.specs.Reports.{frameReport, damageReport, connectedReport, noReplyReport, downReport, early, stray}
 use Rattle.units.specs.Units.{gapOf}
 use Rattle.units.specs.declared.Micros.{Micros}
 use Rattle.timing.specs.Timing.{setOf, decodedOf, isPassed}
@@ -20,18 +20,17 @@ use Rattle.timing.specs.declared.Codes.{Codes}
 use Rattle.frame.specs.Read.{readOf, dataOf}
 use Rattle.events.specs.Events.{isTester}
 use Rattle.events.specs.declared.Side.{Side}
-use Rattle.events.specs.declared.Side.the-variants.{Tester, Unit}
+use Rattle.events.specs.declared.Side.the-variants.{Tester, Unit, Nobody}
 use Rattle.events.specs.declared.Kind.the-variants.{Byte}
 use Rattle.events.specs.declared.Event.{Event}
 use Rattle.talk.specs.Talk.{isFirst, ifAllowed}
 use Rattle.talk.specs.declared.Reply.{Reply}
 use Rattle.talk.specs.declared.Reply.the-variants.{Never, First, Further}
 use Rattle.reports.specs.declared.Report.{Report}
-use Rattle.demands.specs.Logs.{Log, _▷_, markOf, heardIn, numberAfter, takenOf, Begins}
+use Rattle.demands.specs.Logs.{Log, _▷_, markOf, heardOf, bytesOf, heardIn, numberAfter, takenOf, Begins}
 use Rattle.demands.specs.Refusals.{Not}
-use Rattle.demands.specs.Histories.{Machine, reportsTo, Says}
-use Rattle.demands.specs.Connecting.{Connects}
-use Rattle.demands.specs.Accounts.{namedBy, heldIn}
+use Rattle.demands.specs.Histories.{Machine, reportsTo, Says, Among}
+use Rattle.demands.specs.Accounts.{namedBy, bytesNamed, heldIn}
 
 -- ---- the frames of a session, oldest first: whose each is, and its bytes
 pub record Frame : Type 0 where
@@ -97,27 +96,52 @@ pub record Talk : Type 0 where
 abbrev pub opening : ℕ → ℕ → Talk
 opening kb1 kb2 = record { kb1 = kb1; kb2 = kb2; frames = nothing; reply = Never }
 
+-- THE KEY BYTES AMONG THE BYTES of an initialization: a slow start has five, 55 KB1 KB2 and two complements; a fast one has more, and ends in KB1, KB2 and
+-- the checksum
+unfoldable pub firstKeyAt : List ℕ → ℕ
+firstKeyAt bytes = if eqb (length bytes) 5 then 1 else length bytes - 3
+
+unfoldable pub firstKey : List ℕ → ℕ
+firstKey bytes = getD bytes (firstKeyAt bytes) 0
+
+unfoldable pub secondKey : List ℕ → ℕ
+secondKey bytes = getD bytes (suc (firstKeyAt bytes)) 0
+
+abbrev pub openedBy : List ℕ → Talk
+openedBy bytes = opening (firstKey bytes) (secondKey bytes)
+
+-- whose the last of these bytes is
+unfoldable pub lastSide : List Event → Side
+lastSide [] = Nobody
+lastSide (b ∷ []) = b .side
+lastSide (b ∷ c ∷ bs) = lastSide (c ∷ bs)
+
+-- the frame that a report 1 names, by the events taken up to the report's: whose it is, its bytes say (they all come from one side)
+abbrev pub frameNamed : Log → Report → Frame
+frameNamed log r = record { side = lastSide (bytesNamed (bytesOf log) r); bytes = namedBy (heardOf log) r }
+
 -- A report of it. 1: one frame more; "A tester frame awaits a first reply; a unit frame allows further ones." 2 and 6: "no reply is expected".
-unfoldable pub afterReport : Talk → Side → List ℕ → Report → Talk
-afterReport t side heard r =
+unfoldable pub afterReport : Talk → Log → Report → Talk
+afterReport t log r =
     if eqb (r .number) frameReport then record {
       kb1 = t .kb1;
       kb2 = t .kb2;
-      frames = t .frames ▸ record { side = side; bytes = namedBy heard r };
-      reply = if isTester side then First else Further;
+      frames = t .frames ▸ frameNamed log r;
+      reply = if isTester (frameNamed log r .side) then First else Further;
     } else
     if eqb (r .number) damageReport || eqb (r .number) noReplyReport then record { kb1 = t .kb1; kb2 = t .kb2; frames = t .frames; reply = Never } else t
 
--- the reports of an event from this side (a frame is reported by its own last byte), by what was heard up to it
-unfoldable pub talkAfter : Talk → Side → List ℕ → List Report → Talk
-talkAfter t side heard [] = t
-talkAfter t side heard (r ∷ rs) = talkAfter (afterReport t side heard r) side heard rs
+-- the reports of an event, by the events taken up to it
+unfoldable pub talkAfter : Talk → Log → List Report → Talk
+talkAfter t log [] = t
+talkAfter t log (r ∷ rs) = talkAfter (afterReport t log r) log rs
 
--- A SESSION: from an event that completes an initialization on, as long as no report 7 is made.
+-- A SESSION: from a report 3 on (`connects-exactly` says when there is one), with the key bytes among the bytes that it names, as long as no report 7 is made.
 pub data Session (m : Machine) : Log → Talk → Type 0 where
-  opens : {es : Log} {e : Event} → numberAfter (takenOf es) e ≡ taken → (c : Connects (takenOf es) e) → Session m (es ▷ e) (opening (c .kb1) (c .kb2))
+  opens : {es : Log} {e : Event} {r : Report} → Among r (reportsTo m es e) → r .number ≡ connectedReport
+      → Session m (es ▷ e) (openedBy (namedBy (heardIn (es ▷ e)) r))
   lasts : {es : Log} {e : Event} {t : Talk} → Session m es t → Not (Says downReport (reportsTo m es e))
-      → Session m (es ▷ e) (talkAfter t (e .side) (heardIn (es ▷ e)) (reportsTo m es e))
+      → Session m (es ▷ e) (talkAfter t (takenOf (es ▷ e)) (reportsTo m es e))
 
 -- the history is in a session
 pub record SomeSession (m : Machine) (es : Log) : Type 0 where

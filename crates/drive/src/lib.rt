@@ -1,6 +1,7 @@
 // A link driven over a list of events in memory, for measuring it from C.
 ghost use mathlib.Core.Path.{_≡_};
 ghost use Prim.Native.Nat.{_+_, _≤_};
+ghost use Rattle.reports.specs.Reporting.{listed};
 ghost use Rattle.drive.specs.Drive.{eventFrom, mixed, mixedReport, mixedReports, begins, drivenBy, eventAt, digestOf};
 use events::Event;
 use link::Link;
@@ -8,6 +9,12 @@ use reports::Counts;
 use reports::Report;
 use reports::Reports;
 use units::Micros;
+
+// 256 to the second.
+const TWO_BYTES: u64 = 256 * 256;
+
+// 2 to the 32nd.
+const BITS_32: u64 = TWO_BYTES * TWO_BYTES;
 
 // A link, the counts that it is lent, and a digest of its reports so far.
 struct Driven {
@@ -24,7 +31,7 @@ fn event_from(head: u64, start: u64, end: u64) -> Event
     Event {
         start: Micros(start),
         end: Micros(end),
-        kind: events::kind_by((head / 65_536 % 256) as u8),
+        kind: events::kind_by((head / TWO_BYTES % 256) as u8),
         side: events::side_by((head / 256 % 256) as u8),
         value: (head % 256) as u8,
     }
@@ -34,7 +41,7 @@ fn event_from(head: u64, start: u64, end: u64) -> Event
 fn mix(digest: u32, x: u64) -> u32
     ensures { λ r. ⌜ r ≡ mixed digest x ⌝ }
 {
-    ((digest as u64 * 31 + x % 4_294_967_296) % 4_294_967_296) as u32
+    ((digest as u64 * 31 + x % BITS_32) % BITS_32) as u32
 }
 
 // A digest with a report more.
@@ -53,7 +60,7 @@ fn mix_report(digest: u32, x: Report) -> u32
 
 // A digest with an event's reports more.
 fn mix_reports(digest: u32, rs: Reports) -> u32
-    ensures { λ r. ⌜ r ≡ mixedReports digest rs ⌝ }
+    ensures { λ r. ⌜ r ≡ mixedReports digest (listed rs) ⌝ }
 {
     let a = rs.a;
     let b = rs.b;

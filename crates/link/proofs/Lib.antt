@@ -1,4 +1,7 @@
 pub mod Ways
+pub mod Walk
+pub mod Kept
 pub mod Long
 pub mod Three
+pub mod Followed
 pub mod One

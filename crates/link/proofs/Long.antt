@@ -4,14 +4,14 @@
 -- Assumes nothing.
 use Prim.Native.Nat.{ℕ, _≤_}
 use mathlib.Core.Bool.{Bool, true, false, not, _&&_, false≢true}
-use mathlib.Core.Path.{_≡_, refl, sym, ap}
+use mathlib.Core.Path.{_≡_, refl, sym, ap, subst}
 use native.Mathlib.Omega.{arith}
 use borrow.Author.Tests.{eqb-true, le-ltb, ltb-false}
 use lib.Dec.{eqb}
 use Rattle.base.specs.Choice.{if_then_else_}
 use Rattle.base.specs.Numbers.{taken}
 use Rattle.base.specs.Reports.{noReplyReport, downReport, noReason, idleOver}
-use Rattle.base.proofs.Tests.{and-split, by-test}
+use Rattle.base.proofs.Tests.{by-test}
 use Rattle.keys.specs.declared.Pair.{Pair}
 use Rattle.units.specs.Units.{gapOf}
 use Rattle.units.specs.declared.Micros.{Micros}
@@ -21,51 +21,37 @@ use Rattle.timing.specs.declared.Limit.{Limit}
 use Rattle.timing.specs.declared.Windows.{Windows}
 use Rattle.timing.proofs.Least.{LongEnough, codes-long, set-long}
 use Rattle.events.specs.Events.{isTester}
-use Rattle.events.specs.declared.Kind.{Kind}
-use Rattle.events.specs.declared.Kind.the-variants.{Address, WakeUp, Byte, Tick, Drop, Other}
-use Rattle.events.specs.declared.Side.{Side}
+use Rattle.events.specs.declared.Kind.the-variants.{Tick}
+use Rattle.events.specs.declared.Side.the-variants.{Nobody}
 use Rattle.events.specs.declared.Event.{Event}
-use Rattle.starts.specs.Starts.{judged, isOver, isLast}
 use Rattle.starts.specs.declared.Start.{Start}
-use Rattle.talk.specs.Talk.{isFirst, laterReason, isSum, isStopped, isEffective, codesIn, ifAllowed, windowsFor, windowsAfter}
+use Rattle.talk.specs.Talk.{isFirst, isEffective, codesIn, ifAllowed, windowsFor, windowsAfter}
 use Rattle.talk.specs.declared.Request.{Request}
 use Rattle.talk.specs.declared.Request.the-variants.{Ordinary, Stop, OwnTiming, NewTiming, Stopped}
 use Rattle.talk.specs.declared.Message.{Message}
-use Rattle.phases.specs.Phases.{isStarting, isQuiet, isOpen, isConnected, down, starting, connected, talking, holding, damaged, settled, timed, asked, answered, framed}
+use Rattle.phases.specs.Phases.{isQuiet, isOpen, isConnected, down, starting, connected, talking, holding, damaged, settled, timed, asked, answered, framed}
 use Rattle.phases.specs.declared.State.{State}
 use Rattle.phases.specs.declared.State.the-variants.{Down, Starting, Quiet, Held, Damage}
 use Rattle.phases.specs.declared.Phase.{Phase}
-use Rattle.moves.specs.Moves.{still, makes, isSilent, afterSilence, afterP2, afterP3, sinceOrigin, afterWindow, closing, leaving}
-use Rattle.moves.specs.Moves.{isIdle, startingSlow, isGoodLow, startingFast, startByte, reasonAtFirst, firstByte, laterByte, byteIn, afterByte, afterStop}
+use Rattle.phases.proofs.StateTests.{open-connected}
+use Rattle.moves.specs.Moves.{still, makes, isSilent, afterSilence, afterP2, afterP3, afterWindow}
 use Rattle.moves.specs.declared.Move.{Move}
-use Rattle.reports.specs.Reporting.{told, moved}
+use Rattle.moves.proofs.Rules.{Moment, at-silence, at-p2, at-p3, at-window, Rule, rests, breaks-off, waited, idled, expires, cuts-off, aborts, leaves}
+use Rattle.moves.proofs.Rules.{starts-slow, starts-fast, hurries, low, strays, misses, connects, goes-on, opens, errs, breaks, frames, grows, stops}
+use Rattle.moves.proofs.Rules.{by-silence, by-p2, by-p3, by-window}
+use Rattle.reports.specs.Reporting.{moved}
 use Rattle.reports.specs.declared.Counts.{Counts}
 use Rattle.reports.specs.declared.Run.{Run}
-use Rattle.link.specs.Handling.{freshLink, passed, shut, hearing, byteHeard, actedBy, acted, begun, handled, linkAfter}
-use Rattle.link.specs.Stepping.{numberOf, refusedBy, takenBy, answerOf, stepOf}
+use Rattle.link.specs.Handling.{freshLink, passed}
+use Rattle.link.specs.Stepping.{stepOf}
 use Rattle.link.specs.declared.Link.{Link}
-use Rattle.link.specs.declared.Answer.{Answer}
 use Rattle.link.proofs.Ways.{off-right}
+use Rattle.link.proofs.Walk.{moved-phase}
+use Rattle.link.proofs.Kept.{step-keeps}
 
 -- THE INVARIANT: while connected, the windows in force are long enough
 abbrev pub Long : Phase → Type 0
 Long p = isConnected (p .state) ≡ true → LongEnough (p .windows)
-
-pub open-connected : (st : State) → isOpen st ≡ true → isConnected st ≡ true
-unfolding isOpen isConnected
-open-connected Down h = h
-open-connected Starting h = h
-open-connected Quiet h = refl
-open-connected Held h = refl
-open-connected Damage h = refl
-
-pub quiet-connected : (st : State) → isQuiet st ≡ true → isConnected st ≡ true
-unfolding isQuiet isConnected
-quiet-connected Down h = h
-quiet-connected Starting h = h
-quiet-connected Quiet h = refl
-quiet-connected Held h = refl
-quiet-connected Damage h = refl
 
 -- ---- the phases that a move leads to
 down-long : Long down
@@ -135,129 +121,31 @@ unfolding framed
 framed-long p g c =
     by-test Long (isTester (p .message .side)) {x = asked p} {y = answered p} (λ _. asked-long p g c) (λ _. answered-long p g c)
 
--- ---- each move keeps the invariant
-abbrev LongMove : Move → Type 0
-LongMove m = Long (m .phase)
-
-silence-keeps : (p : Phase) (gap : Micros) → Long p → LongMove (afterSilence p gap)
-unfolding afterSilence
-silence-keeps p gap g =
-    by-test LongMove (isOpen (p .state) && isSilent gap)
-    (λ t. settled-long p g (open-connected (p .state) (and-split (isOpen (p .state)) (isSilent gap) t .0))) (λ _. g)
-
-p2-keeps : (p : Phase) (gap : Micros) → Long p → LongMove (afterP2 p gap)
-unfolding afterP2
-p2-keeps p gap g =
-    by-test LongMove (isQuiet (p .state) && isFirst (p .reply) && isPassed (p .windows .p2max) gap)
-    (λ t. settled-long p g (quiet-connected (p .state) (and-split (isQuiet (p .state)) (isFirst (p .reply)) (and-split _ _ t .0) .0))) (λ _. g)
-
-p3-keeps : (p : Phase) (gap : Micros) → Long p → LongMove (afterP3 p gap)
-unfolding afterP3
-p3-keeps p gap g =
-    by-test LongMove (isQuiet (p .state) && not (isFirst (p .reply)) && isPassed (p .windows .p3max) gap) (λ _. down-long) (λ _. g)
-
-window-keeps : (p : Phase) (mark time : Micros) → Long p → LongMove (afterWindow p mark time)
-unfolding afterWindow
-window-keeps p mark time g =
-    by-test LongMove (isStarting (p .state) && isOver (p .start) (sinceOrigin p mark time)) (λ _. down-long) (λ _. g)
-
-closing-keeps : (p : Phase) → Long p → LongMove (closing p)
-unfolding closing
-closing-keeps p g =
-    by-test LongMove (isOpen (p .state)) (λ t. settled-long p g (open-connected (p .state) t))
-    (λ _. by-test LongMove (isStarting (p .state)) (λ _. down-long) (λ _. g))
-
-leaving-keeps : (p : Phase) (reason : ℕ) → Long p → LongMove (leaving p reason)
-unfolding leaving
-leaving-keeps p reason g = by-test LongMove (isQuiet (p .state)) (λ _. down-long) (λ _. g)
-
-slow-keeps : (address : ℕ) (mark start : Micros) → LongMove (startingSlow address mark start)
-unfolding startingSlow
-slow-keeps address mark start = by-test LongMove (isIdle mark start) (λ _. starting-long _ _) (λ _. down-long)
-
-fast-keeps : (mark fall rise : Micros) → LongMove (startingFast mark fall rise)
-unfolding startingFast
-fast-keeps mark fall rise =
-    by-test LongMove (not (isIdle mark fall)) (λ _. down-long)
-    (λ _. by-test LongMove (isGoodLow fall rise) (λ _. starting-long _ _) (λ _. down-long))
-
-start-keeps : (p : Phase) (side : Side) (v : ℕ) (gap : Micros) → LongMove (startByte p side v gap)
-unfolding startByte
-start-keeps p side v gap =
-    by-test LongMove (not (eqb (judged (p .start) side v gap) noReason)) (λ _. down-long)
-    (λ _. by-test LongMove (isLast (p .start .stage)) (λ _. connected-long (p .start)) (λ _. starting-long _ _))
-
-first-keeps : (p : Phase) (side : Side) (v : ℕ) (gap : Micros) → Long p → isConnected (p .state) ≡ true → Long (firstByte p side v gap)
-unfolding firstByte
-first-keeps p side v gap g c =
-    by-test Long (eqb (reasonAtFirst p side v gap) noReason) (λ _. holding-long p _ g c) (λ _. damaged-long p _ g c)
-
-later-keeps : (p : Phase) (side : Side) (v : ℕ) → Long p → isConnected (p .state) ≡ true → LongMove (laterByte p side v)
-unfolding laterByte
-later-keeps p side v g c =
-    by-test LongMove (not (eqb (laterReason (p .message) side v) noReason)) (λ _. damaged-long p _ g c)
-    (λ _. by-test LongMove (isSum (p .message .part)) (λ _. framed-long p g c) (λ _. holding-long p _ g c))
-
-byte-in : (st : State) (p : Phase) (side : Side) (v : ℕ) (mark start : Micros) → p .state ≡ st → Long p → LongMove (byteIn st p side v mark start)
+-- ---- each rule keeps the invariant
+rule-long : (mark : Micros) (e : Event) (p : Phase) (k : Moment) (m : Move) → Rule mark e p k m → Long p → Long (m .phase)
 unfolding isConnected
-byte-in Down p side v mark start e g = down-long
-byte-in Starting p side v mark start e g = start-keeps p side v (sinceOrigin p mark start)
-byte-in Quiet p side v mark start e g = first-keeps p side v (gapOf mark start) g (ap isConnected e)
-byte-in Held p side v mark start e g = later-keeps p side v g (ap isConnected e)
-byte-in Damage p side v mark start e g = g
-
-byte-keeps : (p : Phase) (side : Side) (v : ℕ) (mark start : Micros) → Long p → LongMove (afterByte p side v mark start)
-unfolding afterByte
-byte-keeps p side v mark start g = byte-in (p .state) p side v mark start refl g
-
-stop-keeps : (p : Phase) → Long p → LongMove (afterStop p)
-unfolding afterStop
-stop-keeps p g = by-test LongMove (isQuiet (p .state) && isStopped (p .request)) (λ _. down-long) (λ _. g)
-
--- ---- and so does each event
-abbrev LongRun : Run → Type 0
-LongRun r = Long (r .phase)
-
-moved-long : (r : Run) (m : Move) → LongMove m → LongRun (moved r m)
-unfolding moved told
-moved-long r m g = by-test LongRun (eqb (m .number) 0) (λ _. g) (λ _. g)
-
-passed-long : (r : Run) (mark start : Micros) → LongRun r → LongRun (passed r mark start)
-unfolding passed
-passed-long r mark start g =
-    let g1 = moved-long r _ (silence-keeps (r .phase) (gapOf mark start) g) in
-    let g2 = moved-long _ _ (p2-keeps _ (gapOf mark start) g1) in
-    let g3 = moved-long _ _ (p3-keeps _ (gapOf mark start) g2) in
-    moved-long _ _ (window-keeps _ mark start g3)
-
-shut-long : (r : Run) (reason : ℕ) → LongRun r → LongRun (shut r reason)
-unfolding shut
-shut-long r reason g =
-    let g1 = moved-long r _ (closing-keeps (r .phase) g) in
-    moved-long _ _ (leaving-keeps _ reason g1)
-
-heard-long : (r : Run) (e : Event) (mark : Micros) → LongRun r → LongRun (byteHeard r e mark)
-unfolding byteHeard
-heard-long r e mark g =
-    let g1 = moved-long (hearing r) _ (byte-keeps (r .phase) (e .side) (e .value) mark (e .start) g) in
-    moved-long _ _ (stop-keeps _ g1)
-
-acted-by : (k : Kind) (r : Run) (e : Event) (mark : Micros) → LongRun r → LongRun (actedBy k r e mark)
-acted-by Address r e mark g = moved-long _ _ (slow-keeps (e .value) mark (e .start))
-acted-by WakeUp r e mark g = moved-long _ _ (fast-keeps mark (e .start) (e .end))
-acted-by Byte r e mark g = heard-long r e mark g
-acted-by Tick r e mark g = g
-acted-by Drop r e mark g = shut-long r _ g
-acted-by Other r e mark g = g
-
-handled-long : (l : Link) (e : Event) → Long (l .phase) → LongRun (handled l e)
-unfolding handled acted begun
-handled-long l e g = acted-by (e .kind) _ e (l .mark) (passed-long (begun l e) (l .mark) (e .start) g)
-
-answer-long : (l : Link) (c : Counts) (e : Event) → Long (l .phase) → Long (answerOf l c e .link .phase)
-unfolding answerOf takenBy refusedBy linkAfter
-answer-long l c e g =
-    by-test (λ (a : Answer). Long (a .link .phase)) (eqb (numberOf l c e) taken) (λ _. handled-long l e g) (λ _. g)
+rule-long mark e p k m (rests u) g = g
+rule-long mark e p k m (breaks-off o s) g = settled-long p g (open-connected (p .state) o)
+rule-long mark e p k m (waited q f t) g = settled-long p g (ap isConnected q)
+rule-long mark e p k m (idled q f t) g = down-long
+rule-long mark e p k m (expires s o) g = down-long
+rule-long mark e p k m (cuts-off o) g = settled-long p g (open-connected (p .state) o)
+rule-long mark e p k m (aborts s) g = down-long
+rule-long mark e p k m (leaves c q) g = down-long
+rule-long mark e p k m (starts-slow a i) g = starting-long _ _
+rule-long mark e p k m (starts-fast w i l) g = starting-long _ _
+rule-long mark e p k m (hurries s i) g = down-long
+rule-long mark e p k m (low w i l) g = down-long
+rule-long mark e p k m (strays d) g = down-long
+rule-long mark e p k m (misses s v) g = down-long
+rule-long mark e p k m (connects s v l) g = connected-long (p .start)
+rule-long mark e p k m (goes-on s v l) g = starting-long _ _
+rule-long mark e p k m (opens q r) g = holding-long p _ g (ap isConnected q)
+rule-long mark e p k m (errs q r) g = damaged-long p _ g (ap isConnected q)
+rule-long mark e p k m (breaks h r) g = damaged-long p _ g (ap isConnected h)
+rule-long mark e p k m (frames h r s) g = framed-long p g (ap isConnected h)
+rule-long mark e p k m (grows h r s) g = holding-long p _ g (ap isConnected h)
+rule-long mark e p k m (stops q r) g = down-long
 
 -- IT HOLDS OF A FRESH LINK ..
 pub fresh-long : Long (freshLink .phase)
@@ -266,8 +154,7 @@ fresh-long = down-long
 
 -- .. AND EVERY STEP KEEPS IT, for any counts and any event
 pub step-long : (l : Link) (c : Counts) (e : Event) → Long (l .phase) → Long (stepOf l c e .answer .link .phase)
-unfolding stepOf
-step-long l c e g = answer-long l c e g
+step-long l c e g = step-keeps Long rule-long l c e g
 
 -- ---- the two rules as document 01 says them, whatever is open
 -- "First reply awaited and P2 max passed: report 6; no reply is expected."
@@ -296,25 +183,57 @@ settled-recent : (p : Phase) (gap : Micros) → Recent (settled p) gap
 unfolding settled talking isOpen
 settled-recent p gap o = absurd (false≢true o)
 
+down-recent : (gap : Micros) → Recent down gap
+unfolding down isOpen
+down-recent gap o = absurd (false≢true o)
+
 off-second : (a b : Bool) → (a && b) ≡ false → a ≡ true → b ≡ false
 off-second true b e t = e
 off-second false b e t = absurd (false≢true t)
 
-pub silence-recent : (p : Phase) (gap : Micros) → Recent (afterSilence p gap .phase) gap
-unfolding afterSilence
-silence-recent p gap =
-    by-test (λ (m : Move). Recent (m .phase) gap) (isOpen (p .state) && isSilent gap) (λ _. settled-recent p gap)
-    (λ f. off-second (isOpen (p .state)) (isSilent gap) f)
+-- time that passes, as a tick then would let it
+abbrev pub tickAt : Micros → Event
+tickAt start = record { start = start; end = start; kind = Tick; side = Nobody; value = 0 }
 
-pub p2-recent : (p : Phase) (gap : Micros) → Recent p gap → Recent (afterP2 p gap .phase) gap
-unfolding afterP2
-p2-recent p gap g =
-    by-test (λ (m : Move). Recent (m .phase) gap) (isQuiet (p .state) && isFirst (p .reply) && isPassed (p .windows .p2max) gap)
-    (λ _. settled-recent p gap) (λ _. g)
+module _ (mark start : Micros) where
+  abbrev gap : Micros
+  gap = gapOf mark start
 
-moved-recent : (r : Run) (m : Move) (gap : Micros) → Recent (m .phase) gap → Recent (moved r m .phase) gap
-unfolding moved told
-moved-recent r m gap g = by-test (λ (s : Run). Recent (s .phase) gap) (eqb (m .number) 0) (λ _. g) (λ _. g)
+  abbrev At : Phase → Moment → Move → Type 0
+  At p k m = Rule mark (tickAt start) p k m
+
+  recent-1 : (p : Phase) (m : Move) → At p at-silence m → Recent (m .phase) gap
+  recent-1 p m (rests u) = off-second (isOpen (p .state)) (isSilent gap) u
+  recent-1 p m (breaks-off o s) = settled-recent p gap
+
+  recent-2 : (p : Phase) (m : Move) → At p at-p2 m → Recent p gap → Recent (m .phase) gap
+  recent-2 p m (rests u) g = g
+  recent-2 p m (waited q f t) g = settled-recent p gap
+
+  recent-3 : (p : Phase) (m : Move) → At p at-p3 m → Recent p gap → Recent (m .phase) gap
+  recent-3 p m (rests u) g = g
+  recent-3 p m (idled q f t) g = down-recent gap
+
+  recent-4 : (p : Phase) (m : Move) → At p at-window m → Recent p gap → Recent (m .phase) gap
+  recent-4 p m (rests u) g = g
+  recent-4 p m (expires s o) g = down-recent gap
+
+  moved-recent : (r : Run) (m : Move) → Recent (m .phase) gap → Recent (moved r m .phase) gap
+  moved-recent r m g = subst (λ (p : Phase). Recent p gap) (sym (moved-phase r m)) g
+
+  moved-long : (r : Run) (m : Move) (k : Moment) → At (r .phase) k m → Long (r .phase) → Long (moved r m .phase)
+  moved-long r m k u g = subst Long (sym (moved-phase r m)) (rule-long mark (tickAt start) (r .phase) k m u g)
+
+  pub passed-recent : (r : Run) → Recent (passed r mark start .phase) gap
+  unfolding passed
+  passed-recent r =
+      let r1 = moved r (afterSilence (r .phase) gap) in
+      let r2 = moved r1 (afterP2 (r1 .phase) gap) in
+      let r3 = moved r2 (afterP3 (r2 .phase) gap) in
+      let g1 = moved-recent r _ (recent-1 (r .phase) _ (by-silence mark (tickAt start) (r .phase))) in
+      let g2 = moved-recent r1 _ (recent-2 (r1 .phase) _ (by-p2 mark (tickAt start) (r1 .phase)) g1) in
+      let g3 = moved-recent r2 _ (recent-3 (r2 .phase) _ (by-p3 mark (tickAt start) (r2 .phase)) g2) in
+      moved-recent r3 (afterWindow (r3 .phase) mark start) (recent-4 (r3 .phase) _ (by-window mark (tickAt start) (r3 .phase)) g3)
 
 -- ---- so neither has a limit of 20 ms or more, and the two tests agree
 not-passed : (l : Limit) (gap : Micros) → 20_000 ≤ l .0 .0 → isSilent gap ≡ false → isPassed l gap ≡ false
@@ -350,10 +269,12 @@ unfolding passed paperPassed
 no-history-tells r mark start g =
     let gap = gapOf mark start in
     let m1 = afterSilence (r .phase) gap in
-    let g1 = moved-long r m1 (silence-keeps (r .phase) gap g) in
-    let s1 = moved-recent r m1 gap (silence-recent (r .phase) gap) in
+    let u1 = by-silence mark (tickAt start) (r .phase) in
     let r1 = moved r m1 in
+    let g1 = moved-long mark start r m1 at-silence u1 g in
+    let s1 = moved-recent mark start r m1 (recent-1 mark start (r .phase) m1 u1) in
     let m2 = afterP2 (r1 .phase) gap in
-    let g2 = moved-long r1 m2 (p2-keeps (r1 .phase) gap g1) in
-    let s2 = moved-recent r1 m2 gap (p2-recent (r1 .phase) gap s1) in
+    let u2 = by-p2 mark (tickAt start) (r1 .phase) in
+    let g2 = moved-long mark start r1 m2 at-p2 u2 g1 in
+    let s2 = moved-recent mark start r1 m2 (recent-2 mark start (r1 .phase) m2 u2 s1) in
     rw (quiet-enough-3 (moved r1 m2 .phase) gap g2 s2, quiet-enough-2 (r1 .phase) gap g1 s1) refl

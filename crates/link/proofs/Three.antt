@@ -1,274 +1,178 @@
--- Three places are enough, on any link: no report of an event is lost. A phase has a budget, the number of reports that passing time and closing can
--- still make of it, and each such move pays for its report out of it; so when an event acts, at most two reports have been made.
+-- Three places are enough, on any link: no report of an event is lost. At each moment so many places may still be needed (`need`): by what is open, for a start or a
+-- byte, for a stop. Each rule pays for its report out of them, and an event begins with a need of three at most.
 -- Assumes nothing.
-use Prim.Native.Nat.{ℕ, zero, suc, _+_, _≤_}
-use mathlib.Core.Bool.{Bool, true, false, not, _&&_, false≢true}
+use Prim.Native.Nat.{ℕ, _+_, _≤_}
+use mathlib.Core.Bool.{Bool, true, false, false≢true}
+use mathlib.Core.List.{List, _++_, append-nil}
 use mathlib.Core.Path.{_≡_, _∙_, refl, sym, ap}
-use mathlib.Core.List.{List, [], _∷_, _++_, append-nil, append-assoc}
 use native.Mathlib.Omega.{arith}
 use lib.Dec.{eqb}
 use Rattle.base.specs.Choice.{if_then_else_}
-use Rattle.base.specs.Reports.{dropped, restarted}
-use Rattle.base.proofs.Tests.{and-split, by-test}
-use Rattle.units.specs.Units.{gapOf}
+use Rattle.base.proofs.Tests.{by-test}
 use Rattle.units.specs.declared.Micros.{Micros}
-use Rattle.timing.specs.Timing.{isPassed}
-use Rattle.events.specs.declared.Kind.{Kind}
-use Rattle.events.specs.declared.Kind.the-variants.{Address, WakeUp, Byte, Tick, Drop, Other}
-use Rattle.events.specs.declared.Side.{Side}
 use Rattle.events.specs.declared.Event.{Event}
-use Rattle.starts.specs.Starts.{isOver}
 use Rattle.talk.specs.Talk.{isFirst}
 use Rattle.talk.specs.declared.Reply.{Reply}
-use Rattle.phases.specs.Phases.{isStarting, isQuiet, isOpen, down, talking, settled}
+use Rattle.phases.specs.Phases.{isOpen, down, starting, connected, talking, holding, damaged, settled, framed}
 use Rattle.phases.specs.declared.State.{State}
 use Rattle.phases.specs.declared.State.the-variants.{Down, Starting, Quiet, Held, Damage}
 use Rattle.phases.specs.declared.Phase.{Phase}
-use Rattle.moves.specs.Moves.{isSilent, afterSilence, afterP2, afterP3, sinceOrigin, afterWindow, closing, leaving}
-use Rattle.moves.specs.Moves.{startingSlow, startingFast, byteIn, afterByte, afterStop}
 use Rattle.moves.specs.declared.Move.{Move}
-use Rattle.reports.specs.Reporting.{reportOf, appended, listed, told, moved}
+use Rattle.moves.proofs.Rules.{Moment, at-silence, at-p2, at-p3, at-window, at-closing, at-leaving, at-start, at-byte, at-stop, at-end, next}
+use Rattle.moves.proofs.Rules.{Rule, Unmoved, rests, breaks-off, waited, idled, expires, cuts-off, aborts, leaves, starts-slow, starts-fast, hurries, low}
+use Rattle.moves.proofs.Rules.{strays, misses, connects, goes-on, opens, errs, breaks, frames, grows, stops}
+use Rattle.reports.specs.Reporting.{places, listed, reportOf, told, moved}
 use Rattle.reports.specs.declared.Report.{Report}
-use Rattle.reports.specs.declared.Reports.{Reports}
 use Rattle.reports.specs.declared.Run.{Run}
-use Rattle.link.specs.Handling.{passed, shut, hearing, byteHeard, actedBy, acted, begun, handled}
-use Rattle.link.specs.Telling.{tells, passedTells, shutTells, byteTells, actedTells, handledTells}
+use Rattle.reports.proofs.Places.{placed}
+use Rattle.link.specs.Handling.{begun, handled}
+use Rattle.link.specs.Telling.{tells, handledTells}
 use Rattle.link.specs.declared.Link.{Link}
+use Rattle.link.proofs.Walk.{moved-phase, event-walk}
 
--- ---- a report that finds a place is the last of the list
+-- ---- a move makes one report or none
 abbrev made : Move → ℕ
 made m = if eqb (m .number) 0 then 0 else 1
 
-one-at-most : (m : Move) → made m ≤ 1
-one-at-most m = by-test (λ (k : ℕ). k ≤ 1) (eqb (m .number) 0) (λ _. omega arith) (λ _. omega arith)
-
-record Placed (rs : Reports) (x : Report) : Type 0 where
-  last : listed (appended rs x) ≡ listed rs ++ (x ∷ [])
-  more : appended rs x .n ≡ rs .n + 1
-
-placed-at : (a b c x : Report) (n : ℕ) → n ≤ 2 → Placed (record { a = a; b = b; c = c; n = n }) x
-unfolding listed appended
-placed-at a b c x zero h = record { last = refl; more = refl }
-placed-at a b c x (suc zero) h = record { last = refl; more = refl }
-placed-at a b c x (suc (suc zero)) h = record { last = refl; more = refl }
-placed-at a b c x (suc (suc (suc n))) h = absurd (omega arith)
-
-placed : (rs : Reports) (x : Report) → rs .n ≤ 2 → Placed rs x
-placed rs x h = placed-at (rs .a) (rs .b) (rs .c) x (rs .n) h
-
--- a run comes of another with these reports behind its own
-abbrev Grows : Run → Run → List Report → Type 0
-Grows r s xs = listed (s .reports) ≡ listed (r .reports) ++ xs
-
-grows-on : (r s t : Run) (xs ys : List Report) → Grows r s xs → Grows s t ys → Grows r t (xs ++ ys)
-grows-on r s t xs ys g h = h ∙ ap (λ (l : List Report). l ++ ys) g ∙ append-assoc (listed (r .reports)) xs ys
-
 record Made (r : Run) (m : Move) : Type 0 where
-  grows : Grows r (moved r m) (tells r m)
+  grows : listed (moved r m .reports) ≡ listed (r .reports) ++ tells r m
   count : moved r m .reports .n ≡ r .reports .n + made m
-  there : moved r m .phase ≡ m .phase
 
-made-by : (b : Bool) (r : Run) (m : Move) → eqb (m .number) 0 ≡ b → r .reports .n + made m ≤ 3 → Made r m
+made-by : (b : Bool) (r : Run) (m : Move) → eqb (m .number) 0 ≡ b → r .reports .n + made m ≤ places → Made r m
 unfolding moved told tells
-made-by true r m e h = record {
-  grows = rw e (sym (append-nil (listed (r .reports))));
-  count = rw e (omega arith);
-  there = rw e refl;
-}
+made-by true r m e h = record { grows = rw e (sym (append-nil (listed (r .reports)))); count = rw e (omega arith) }
 made-by false r m e h =
-    let k : r .reports .n + 1 ≤ 3 = rw e at h in
+    let k : r .reports .n + 1 ≤ places = rw e at h in
     let p = placed (r .reports) (reportOf r (m .number) (m .reason)) (omega arith) in
-    record { grows = rw e (p .last); count = rw e (p .more); there = rw e refl }
+    record { grows = rw e (p .last); count = rw e (p .more) }
 
-makes-it : (r : Run) (m : Move) → r .reports .n + made m ≤ 3 → Made r m
-makes-it r m h = made-by (eqb (m .number) 0) r m refl h
+-- ---- THE PLACES THAT MAY STILL BE NEEDED: as time passes and A, W or D closes (a message or damage ends and then the link is left; a first reply stays out and
+-- then the link is idle; an initialization fails) ..
+unfoldable toEnd : State → Reply → ℕ
+toEnd Down reply = 0
+toEnd Starting reply = 1
+toEnd Quiet reply = if isFirst reply then 2 else 1
+toEnd Held reply = 2
+toEnd Damage reply = 2
 
--- ---- the budget: a message or damage is closed and then the link; a first reply stays out and then the link is idle
-unfoldable potIn : State → Reply → ℕ
-potIn Down reply = 0
-potIn Starting reply = 1
-potIn Quiet reply = if isFirst reply then 2 else 1
-potIn Held reply = 2
-potIn Damage reply = 2
+-- .. for a stop, behind a byte that leaves nothing open ..
+unfoldable toStop : State → ℕ
+toStop Down = 0
+toStop Starting = 0
+toStop Quiet = 1
+toStop Held = 0
+toStop Damage = 0
 
-abbrev pot : Phase → ℕ
-pot p = potIn (p .state) (p .reply)
+-- .. and in all, with one for a start or a byte
+unfoldable needIn : Moment → State → Reply → ℕ
+needIn at-silence st reply = toEnd st reply + 1
+needIn at-p2 st reply = toEnd st reply + 1
+needIn at-p3 st reply = toEnd st reply + 1
+needIn at-window st reply = toEnd st reply + 1
+needIn at-closing st reply = toEnd st reply + 1
+needIn at-leaving st reply = toEnd st reply + 1
+needIn at-start st reply = 1
+needIn at-byte st reply = toEnd st reply + 1
+needIn at-stop st reply = toStop st
+needIn at-end st reply = 0
 
-pot-high : (st : State) (reply : Reply) → potIn st reply ≤ 2
-unfolding potIn
-pot-high Down reply = omega arith
-pot-high Starting reply = omega arith
-pot-high Quiet reply = by-test (λ (k : ℕ). k ≤ 2) (isFirst reply) (λ _. omega arith) (λ _. omega arith)
-pot-high Held reply = omega arith
-pot-high Damage reply = omega arith
+abbrev need : Moment → Phase → ℕ
+need k p = needIn k (p .state) (p .reply)
 
-open-pot : (st : State) (reply : Reply) → isOpen st ≡ true → 2 ≤ potIn st reply
-unfolding isOpen potIn
-open-pot Down reply h = absurd (false≢true h)
-open-pot Starting reply h = absurd (false≢true h)
-open-pot Quiet reply h = absurd (false≢true h)
-open-pot Held reply h = omega arith
-open-pot Damage reply h = omega arith
+toEnd-most : (st : State) (reply : Reply) → toEnd st reply ≤ 2
+unfolding toEnd
+toEnd-most Down reply = omega arith
+toEnd-most Starting reply = omega arith
+toEnd-most Quiet reply = by-test (λ (k : ℕ). k ≤ 2) (isFirst reply) (λ _. omega arith) (λ _. omega arith)
+toEnd-most Held reply = omega arith
+toEnd-most Damage reply = omega arith
 
-awaiting-pot : (st : State) (reply : Reply) → isQuiet st ≡ true → isFirst reply ≡ true → 2 ≤ potIn st reply
-unfolding isQuiet potIn
-awaiting-pot Down reply h f = absurd (false≢true h)
-awaiting-pot Starting reply h f = absurd (false≢true h)
-awaiting-pot Quiet reply h f = rw f (omega arith)
-awaiting-pot Held reply h f = omega arith
-awaiting-pot Damage reply h f = omega arith
+toStop-most : (st : State) → toStop st ≤ 1
+unfolding toStop
+toStop-most Down = omega arith
+toStop-most Starting = omega arith
+toStop-most Quiet = omega arith
+toStop-most Held = omega arith
+toStop-most Damage = omega arith
 
-quiet-some : (reply : Reply) → 1 ≤ potIn Quiet reply
-unfolding potIn
+open-two : (st : State) (reply : Reply) → isOpen st ≡ true → toEnd st reply ≡ 2
+unfolding isOpen toEnd
+open-two Down reply o = absurd (false≢true o)
+open-two Starting reply o = absurd (false≢true o)
+open-two Quiet reply o = absurd (false≢true o)
+open-two Held reply o = refl
+open-two Damage reply o = refl
+
+quiet-some : (reply : Reply) → 1 ≤ toEnd Quiet reply
+unfolding toEnd
 quiet-some reply = by-test (λ (k : ℕ). 1 ≤ k) (isFirst reply) (λ _. omega arith) (λ _. omega arith)
 
-quiet-pot : (st : State) (reply : Reply) → isQuiet st ≡ true → 1 ≤ potIn st reply
-unfolding isQuiet potIn
-quiet-pot Down reply h = absurd (false≢true h)
-quiet-pot Starting reply h = omega arith
-quiet-pot Quiet reply h = quiet-some reply
-quiet-pot Held reply h = omega arith
-quiet-pot Damage reply h = omega arith
+-- ---- EACH RULE PAYS for its report, and for what may be needed after it
+abbrev Pays : Phase → Moment → Move → Type 0
+Pays p k m = made m + need (next k) (m .phase) ≤ need k p
 
-starting-pot : (st : State) (reply : Reply) → isStarting st ≡ true → 1 ≤ potIn st reply
-unfolding isStarting potIn
-starting-pot Down reply h = absurd (false≢true h)
-starting-pot Starting reply h = omega arith
-starting-pot Quiet reply h = absurd (false≢true h)
-starting-pot Held reply h = omega arith
-starting-pot Damage reply h = omega arith
+module _ (mark : Micros) (e : Event) (p : Phase) where
+  rest-pays : (k : Moment) → Unmoved mark e p k → 0 + need (next k) p ≤ need k p
+  unfolding needIn next toStop
+  rest-pays at-silence u = omega arith
+  rest-pays at-p2 u = omega arith
+  rest-pays at-p3 u = omega arith
+  rest-pays at-window u = omega arith
+  rest-pays at-closing u = omega arith
+  rest-pays at-leaving u = omega arith
+  rest-pays at-start u = absurd u
+  rest-pays at-byte u = omega (arith, ap toStop u)
+  rest-pays at-stop u = omega arith
+  rest-pays at-end u = absurd u
 
--- ---- each move of passing time, and of closing, pays
-abbrev Pays : Phase → Move → Type 0
-Pays p m = made m + pot (m .phase) ≤ pot p
+  -- in a state that the rule names
+  is : {st : State} → p .state ≡ st → toEnd (p .state) (p .reply) ≡ toEnd st (p .reply)
+  is q = ap (λ (st : State). toEnd st (p .reply)) q
 
-still-pays : (p : Phase) → 0 + pot p ≤ pot p
-still-pays p = omega arith
+  pays : (k : Moment) (m : Move) → Rule mark e p k m → Pays p k m
+  unfolding needIn next toEnd toStop isFirst down starting connected settled talking holding damaged
+  pays k m (rests u) = rest-pays k u
+  pays k m (breaks-off o s) = omega (arith, open-two (p .state) (p .reply) o)
+  pays k m (waited q f t) = omega (arith, is q, ap {B = ℕ} (λ (b : Bool). if b then 2 else 1) f)
+  pays k m (idled q f t) = omega (arith, is q, quiet-some (p .reply))
+  pays k m (expires s o) = omega (arith, is s)
+  pays k m (cuts-off o) = omega (arith, open-two (p .state) (p .reply) o)
+  pays k m (aborts s) = omega (arith, is s)
+  pays k m (leaves c q) = omega (arith, is q, quiet-some (p .reply))
+  pays k m (starts-slow a i) = omega arith
+  pays k m (starts-fast w i l) = omega arith
+  pays k m (hurries s i) = omega arith
+  pays k m (low w i l) = omega arith
+  pays k m (strays d) = omega arith
+  pays k m (misses s v) = omega arith
+  pays k m (connects s v l) = omega (arith, is s)
+  pays k m (goes-on s v l) = omega arith
+  pays k m (opens q r) = omega arith
+  pays k m (errs q r) = omega arith
+  pays k m (breaks h r) = omega arith
+  pays k m (frames h r s) = omega (arith, is h, toStop-most (framed p .state))
+  pays k m (grows h r s) = omega arith
+  pays k m (stops q r) = omega (arith, ap toStop q)
 
-settled-pays : (p : Phase) → 2 ≤ pot p → 1 + pot (settled p) ≤ pot p
-unfolding settled talking potIn isFirst
-settled-pays p h = h
+-- ---- so there is room at every moment
+record Roomy (k : Moment) (r : Run) (xs : List Report) : Type 0 where
+  all : listed (r .reports) ≡ xs
+  room : r .reports .n + need k (r .phase) ≤ places
 
-down-pays : (p : Phase) → 1 ≤ pot p → 1 + pot down ≤ pot p
-unfolding down potIn
-down-pays p h = h
-
-silence-pays : (p : Phase) (gap : Micros) → Pays p (afterSilence p gap)
-unfolding afterSilence
-silence-pays p gap =
-    by-test (Pays p) (isOpen (p .state) && isSilent gap)
-    (λ t. settled-pays p (open-pot (p .state) (p .reply) (and-split (isOpen (p .state)) (isSilent gap) t .0))) (λ _. still-pays p)
-
-p2-pays : (p : Phase) (gap : Micros) → Pays p (afterP2 p gap)
-unfolding afterP2
-p2-pays p gap =
-    by-test (Pays p) (isQuiet (p .state) && isFirst (p .reply) && isPassed (p .windows .p2max) gap)
-    (λ t. let s = and-split (isQuiet (p .state)) (isFirst (p .reply)) (and-split _ _ t .0) in
-    settled-pays p (awaiting-pot (p .state) (p .reply) (s .0) (s .1))) (λ _. still-pays p)
-
-p3-pays : (p : Phase) (gap : Micros) → Pays p (afterP3 p gap)
-unfolding afterP3
-p3-pays p gap =
-    by-test (Pays p) (isQuiet (p .state) && not (isFirst (p .reply)) && isPassed (p .windows .p3max) gap)
-    (λ t. down-pays p (quiet-pot (p .state) (p .reply) (and-split (isQuiet (p .state)) (not (isFirst (p .reply))) (and-split _ _ t .0) .0))) (λ _. still-pays p)
-
-window-pays : (p : Phase) (mark time : Micros) → Pays p (afterWindow p mark time)
-unfolding afterWindow
-window-pays p mark time =
-    by-test (Pays p) (isStarting (p .state) && isOver (p .start) (sinceOrigin p mark time))
-    (λ t. down-pays p (starting-pot (p .state) (p .reply) (and-split (isStarting (p .state)) _ t .0))) (λ _. still-pays p)
-
-closing-pays : (p : Phase) → Pays p (closing p)
-unfolding closing
-closing-pays p =
-    by-test (Pays p) (isOpen (p .state)) (λ t. settled-pays p (open-pot (p .state) (p .reply) t))
-    (λ _. by-test (Pays p) (isStarting (p .state)) (λ t. down-pays p (starting-pot (p .state) (p .reply) t)) (λ _. still-pays p))
-
-leaving-pays : (p : Phase) (reason : ℕ) → Pays p (leaving p reason)
-unfolding leaving
-leaving-pays p reason = by-test (Pays p) (isQuiet (p .state)) (λ t. down-pays p (quiet-pot (p .state) (p .reply) t)) (λ _. still-pays p)
-
--- a byte of a link that is down leaves it down, so that no stop comes behind its report
-stop-in : (st : State) (p : Phase) (side : Side) (v : ℕ) (mark start : Micros) → made (afterStop (byteIn st p side v mark start .phase)) ≤ potIn st (p .reply)
-unfolding potIn afterStop down isQuiet
-stop-in Down p side v mark start = omega arith
-stop-in Starting p side v mark start = one-at-most (afterStop (byteIn Starting p side v mark start .phase))
-stop-in Quiet p side v mark start = omega (arith, one-at-most (afterStop (byteIn Quiet p side v mark start .phase)), quiet-some (p .reply))
-stop-in Held p side v mark start = omega (arith, one-at-most (afterStop (byteIn Held p side v mark start .phase)))
-stop-in Damage p side v mark start = omega (arith, one-at-most (afterStop p))
-
-stop-pays : (p : Phase) (side : Side) (v : ℕ) (mark start : Micros) → made (afterStop (afterByte p side v mark start .phase)) ≤ pot p
-unfolding afterByte
-stop-pays p side v mark start = stop-in (p .state) p side v mark start
-
--- ---- so there is room until the event acts, ..
-abbrev Roomy : Run → Type 0
-Roomy r = r .reports .n + pot (r .phase) ≤ 2
-
-record Fine (r s : Run) (xs : List Report) : Type 0 where
-  grows : Grows r s xs
-  room : Roomy s
-
-fine-on : (r s t : Run) (xs ys : List Report) → Fine r s xs → Fine s t ys → Fine r t (xs ++ ys)
-fine-on r s t xs ys f g = record { grows = grows-on r s t xs ys (f .grows) (g .grows); room = g .room }
-
-moved-fine : (r : Run) (m : Move) → Roomy r → Pays (r .phase) m → Fine r (moved r m) (tells r m)
-moved-fine r m h p =
-    let k = makes-it r m (omega arith) in
-    record { grows = k .grows; room = let t = ap pot (k .there) in let c = k .count in omega arith }
-
-passed-fine : (r : Run) (mark start : Micros) → Roomy r → Fine r (passed r mark start) (passedTells r mark start)
-unfolding passed passedTells
-passed-fine r mark start h =
-    let gap = gapOf mark start in
-    let f1 = moved-fine r _ h (silence-pays (r .phase) gap) in
-    let f2 = moved-fine _ _ (f1 .room) (p2-pays _ gap) in
-    let f3 = moved-fine _ _ (f2 .room) (p3-pays _ gap) in
-    let f4 = moved-fine _ _ (f3 .room) (window-pays _ mark start) in
-    fine-on _ _ _ _ _ (fine-on _ _ _ _ _ (fine-on _ _ _ _ _ f1 f2) f3) f4
-
-shut-fine : (r : Run) (reason : ℕ) → Roomy r → Fine r (shut r reason) (shutTells r reason)
-unfolding shut shutTells
-shut-fine r reason h =
-    let f1 = moved-fine r _ h (closing-pays (r .phase)) in
-    let f2 = moved-fine _ _ (f1 .room) (leaving-pays _ reason) in
-    fine-on _ _ _ _ _ f1 f2
-
--- .. and for the reports that it makes
-start-grows : (r : Run) (reason : ℕ) (m : Move) → Roomy r → Grows r (moved (shut r reason) m) (shutTells r reason ++ tells (shut r reason) m)
-start-grows r reason m h =
-    let f = shut-fine r reason h in
-    let k = makes-it (shut r reason) m (omega (arith, f .room, one-at-most m)) in
-    grows-on r (shut r reason) (moved (shut r reason) m) _ _ (f .grows) (k .grows)
-
-byte-grows : (r : Run) (e : Event) (mark : Micros) → Roomy r → Grows r (byteHeard r e mark) (byteTells r e mark)
-unfolding byteHeard byteTells
-byte-grows r e mark h =
-    let m1 = afterByte (r .phase) (e .side) (e .value) mark (e .start) in
-    let r1 = moved (hearing r) m1 in
-    let m2 = afterStop (r1 .phase) in
-    let k1 = makes-it (hearing r) m1 (omega (arith, h, one-at-most m1)) in
-    let s : made m2 ≤ pot (r .phase) = rw (k1 .there) (stop-pays (r .phase) (e .side) (e .value) mark (e .start)) in
-    let k2 = makes-it r1 m2 (omega (arith, h, k1 .count, one-at-most m1, s)) in
-    grows-on r r1 (moved r1 m2) _ _ (k1 .grows) (k2 .grows)
-
-acted-grows : (k : Kind) (r : Run) (e : Event) (mark : Micros) → Roomy r → Grows r (actedBy k r e mark) (actedTells k r e mark)
-acted-grows Address r e mark h = start-grows r restarted (startingSlow (e .value) mark (e .start)) h
-acted-grows WakeUp r e mark h = start-grows r restarted (startingFast mark (e .start) (e .end)) h
-acted-grows Byte r e mark h = byte-grows r e mark h
-acted-grows Tick r e mark h = sym (append-nil (listed (r .reports)))
-acted-grows Drop r e mark h = shut-fine r dropped h .grows
-acted-grows Other r e mark h = sym (append-nil (listed (r .reports)))
-
-begun-roomy : (l : Link) (e : Event) → Roomy (begun l e)
-unfolding begun
-begun-roomy l e = omega (arith, pot-high (l .phase .state) (l .phase .reply))
+moved-roomy : (mark : Micros) (e : Event) (k : Moment) (r : Run) (xs : List Report) (m : Move) → Rule mark e (r .phase) k m → Roomy k r xs
+    → Roomy (next k) (moved r m) (xs ++ tells r m)
+moved-roomy mark e k r xs m u i =
+    let y = pays mark e (r .phase) k m u in
+    let g = made-by (eqb (m .number) 0) r m refl (omega (arith, i .room)) in
+    record {
+      all = g .grows ∙ ap (λ (l : List Report). l ++ tells r m) (i .all);
+      room = omega (arith, i .room, y, g .count, ap (need (next k)) (moved-phase r m));
+    }
 
 -- THREE PLACES ARE ENOUGH: on any link, for any event, the reports in them are those of all its moves, in order
 pub three-enough : (l : Link) (e : Event) → listed (handled l e .reports) ≡ handledTells l e
-unfolding handled handledTells acted begun listed
+unfolding handled handledTells begun listed needIn
 three-enough l e =
-    let r = begun l e in
-    let f = passed-fine r (l .mark) (e .start) (begun-roomy l e) in
-    let s = passed r (l .mark) (e .start) in
-    grows-on r s (actedBy (e .kind) s e (l .mark)) _ _ (f .grows) (acted-grows (e .kind) s e (l .mark) (f .room))
+    event-walk (l .mark) e Roomy (moved-roomy (l .mark) e) (λ r xs i. record { all = i .all; room = i .room })
+    (λ r xs i. record { all = i .all; room = omega (arith, i .room) }) (λ r xs i. record { all = i .all; room = omega (arith, i .room) })
+    (begun l e) (record { all = refl; room = omega (arith, toEnd-most (l .phase .state) (l .phase .reply)) }) .all

@@ -10,7 +10,7 @@ use Rattle.events.specs.Events.{marks}
 use Rattle.events.specs.declared.Kind.{Kind}
 use Rattle.events.specs.declared.Kind.the-variants.{Address, WakeUp, Byte, Tick, Drop, Other}
 use Rattle.events.specs.declared.Event.{Event}
-use Rattle.phases.specs.Phases.{down}
+use Rattle.phases.specs.Phases.{off}
 use Rattle.moves.specs.Moves.{afterSilence, afterP2, afterP3, afterWindow, closing, leaving, startingSlow, startingFast, afterByte, afterStop}
 use Rattle.reports.specs.Reporting.{noReports, moved}
 use Rattle.reports.specs.declared.Run.{Run}
@@ -18,7 +18,7 @@ use Rattle.link.specs.declared.Link.{Link}
 
 -- ---- a fresh link
 unfoldable pub freshLink : Link
-freshLink = record { clock = micros 0; mark = micros 0; taken = 0; heard = 0; named = 0; phase = down }
+freshLink = record { clock = micros 0; mark = micros 0; taken = 0; heard = 0; named = 0; phase = off }
 
 -- ---- "Before acting, an event lets time pass to its start, just as a tick then would": the four rules in document 01's order, each on what the one
 -- before left. "P2 and P3 are measured from the mark."

@@ -9,7 +9,7 @@ use borrow.Author.Tests.{le-leb, le-ltb}
 use native.Mathlib.Omega.{arith}
 use Rattle.text.specs.Text.{headText}
 use Rattle.listing.specs.Listing.{Feed, freshLister, lineEnded, feedByte, feed, endingOf, listingOf}
-use Rattle.listing.specs.Parts.{most, takes, partOf}
+use Rattle.listing.specs.Parts.{answerMost, takes, partOf}
 use Rattle.listing.specs.declared.Lister.{Lister}
 
 -- A call of `list_part`: the bytes that are offered, and how many the lent buffer has. Offered may be anything, and of any length; what is not read
@@ -86,15 +86,15 @@ unfolding takes feed
 takes-fed room [] f at = let z : at - at ≡ 0 = omega arith in rw z
 takes-fed room (b ∷ bs) f at = fed-by room f b bs at (leb (length (f .said)) room) refl (takes-fed room bs (feedByte f b) (at + 1))
 
-part-by : (l : Lister) (s : List ℕ) (n : ℕ) (t : Bool) → ltb n most ≡ t → partOf l s n .feed ≡ feed (record { lister = l; said = [] }) (take (partOf l s n .at) s)
+part-by : (l : Lister) (s : List ℕ) (n : ℕ) (t : Bool) → ltb n answerMost ≡ t → partOf l s n .feed ≡ feed (record { lister = l; said = [] }) (take (partOf l s n .at) s)
 unfolding partOf feed
 part-by l s n true e = rw e
 part-by l s n false e =
-    let z : takes (n - most) (record { lister = l; said = [] }) s 0 .at - 0 ≡ takes (n - most) (record { lister = l; said = [] }) s 0 .at = omega arith in
-    rw e (rw z at (takes-fed (n - most) s (record { lister = l; said = [] }) 0))
+    let z : takes (n - answerMost) (record { lister = l; said = [] }) s 0 .at - 0 ≡ takes (n - answerMost) (record { lister = l; said = [] }) s 0 .at = omega arith in
+    rw e (rw z at (takes-fed (n - answerMost) s (record { lister = l; said = [] }) 0))
 
 pub part-fed : (l : Lister) (s : List ℕ) (n : ℕ) → partOf l s n .feed ≡ feed (record { lister = l; said = [] }) (take (partOf l s n .at) s)
-part-fed l s n = part-by l s n (ltb n most) refl
+part-fed l s n = part-by l s n (ltb n answerMost) refl
 
 -- ---- calls one after another give what all bytes that they read give
 calls-fed : (cs : List Call) (l : Lister) → feed (record { lister = l; said = [] }) (readBy l cs) ≡ record { lister = listerAfter l cs; said = writtenBy l cs }
@@ -117,13 +117,13 @@ any-cut cs =
     (sym (append-assoc headText (writtenBy freshLister cs) (endingOf (listerAfter freshLister cs))))
 
 -- ---- a call reads something, if something is offered and the buffer has room for what one line may have written
-first-by : (l : Lister) (b : ℕ) (bs : List ℕ) (n : ℕ) → most ≤ n → 0 < partOf l (b ∷ bs) n .at
+first-by : (l : Lister) (b : ℕ) (bs : List ℕ) (n : ℕ) → answerMost ≤ n → 0 < partOf l (b ∷ bs) n .at
 unfolding partOf takes
 first-by l b bs n h =
-    let k = takes-behind (n - most) (feedByte (record { lister = l; said = [] }) b) bs 1 in
-    rw (le-ltb n most h, le-leb 0 (n - most) (omega arith)) (omega arith)
+    let k = takes-behind (n - answerMost) (feedByte (record { lister = l; said = [] }) b) bs 1 in
+    rw (le-ltb n answerMost h, le-leb 0 (n - answerMost) (omega arith)) (omega arith)
 
-pub reads-on : (l : Lister) (s : List ℕ) (n : ℕ) → 0 < length s → most ≤ n → 0 < partOf l s n .at
+pub reads-on : (l : Lister) (s : List ℕ) (n : ℕ) → 0 < length s → answerMost ≤ n → 0 < partOf l s n .at
 reads-on l [] n k h = absurd (omega arith)
 reads-on l (b ∷ bs) n k h = first-by l b bs n h
 
@@ -139,10 +139,10 @@ unfolding takes
 takes-within room [] f at = omega arith
 takes-within room (b ∷ bs) f at = within-by room f b bs at (leb (length (f .said)) room) refl (takes-within room bs (feedByte f b) (at + 1))
 
-within-part : (l : Lister) (s : List ℕ) (n : ℕ) (t : Bool) → ltb n most ≡ t → partOf l s n .at ≤ length s
+within-part : (l : Lister) (s : List ℕ) (n : ℕ) (t : Bool) → ltb n answerMost ≡ t → partOf l s n .at ≤ length s
 unfolding partOf
 within-part l s n true e = rw e (omega arith)
-within-part l s n false e = rw e (omega (arith, takes-within (n - most) s (record { lister = l; said = [] }) 0))
+within-part l s n false e = rw e (omega (arith, takes-within (n - answerMost) s (record { lister = l; said = [] }) 0))
 
 pub part-within : (l : Lister) (s : List ℕ) (n : ℕ) → partOf l s n .at ≤ length s
-part-within l s n = within-part l s n (ltb n most) refl
+part-within l s n = within-part l s n (ltb n answerMost) refl

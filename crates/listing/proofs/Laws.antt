@@ -13,6 +13,7 @@ use Rattle.base.specs.Choice.{if_then_else_}
 use Rattle.base.specs.Numbers.{taken}
 use Rattle.base.proofs.Tests.{and-split, by-test}
 use Rattle.events.specs.declared.Event.{Event}
+use Rattle.reports.specs.Reporting.{listed}
 use Rattle.reports.specs.Counting.{countedByte, countedAll, countedEvent}
 use Rattle.reports.specs.declared.Counts.{Counts}
 use Rattle.link.specs.Stepping.{stepOf}
@@ -28,10 +29,10 @@ use Rattle.lines.specs.declared.Reading.{Reading}
 use Rattle.lines.specs.declared.Got.{Got}
 use Rattle.lines.specs.declared.Row.{Row}
 use Rattle.lines.proofs.Ways.{row-line}
-use Rattle.text.specs.Text.{reportsText, refusedText, endText, put, Puts, Writes}
+use Rattle.text.specs.Text.{reportsText, refusedText, endText, refusedMost, endMost, put, Puts, Writes}
 use Rattle.text.proofs.Laws.{puts-join, puts-nil, put-nil, puts-writes, writes-puts, reports-small, refused-small, end-small}
 use Rattle.listing.specs.Listing.{Feed, answerText, stepped, saidOf, lineEnded, withReading, feedByte, finished, heldOf, endingOf}
-use Rattle.listing.specs.Parts.{most, takes, partOf, Parted}
+use Rattle.listing.specs.Parts.{answerMost, endingMost, takes, partOf, Parted}
 use Rattle.listing.specs.Turns.{Acted, readingAfter, RowAt, listerOf, Glided, Stretched, Turned, Ended}
 use Rattle.listing.proofs.Sizes.{finished-small, part-kept}
 use Rattle.listing.specs.declared.Lister.{Lister}
@@ -126,17 +127,17 @@ turned-cut l s at n out g e w = record {
   behind = line-behind l s at g e;
   ahead = λ h. line-ahead l s at g e h;
   same = λ room o h. rw (append-nil o) (cut-on room l s o at g e w h);
-  wrote = wider n [] 0 most out n out (omega arith) (puts-nil n out);
+  wrote = wider n [] 0 answerMost out n out (omega arith) (puts-nil n out);
 }
 
 -- ---- bytes that go on with the message held
 -- their step, and that nothing is written for it
 ran-step : (k : Link) (c : Counts) (rd : Reading) (e : Event) → runsOn k c e ≡ true → stepped (listerOf k c rd) e ≡ listerOf (ranOn k e) (countedByte c true) freshReading
-unfolding stepped countedEvent countedAll
+unfolding stepped countedEvent countedAll listed
 ran-step k c rd e h = rw (runs-on k c e h)
 
 ran-silent : (k : Link) (c : Counts) (rd : Reading) (e : Event) → runsOn k c e ≡ true → saidOf (listerOf k c rd) e ≡ []
-unfolding saidOf answerText reportsText
+unfolding saidOf answerText reportsText listed
 ran-silent k c rd e h = rw (runs-on k c e h)
 
 -- the line of such a byte is what its bytes give, and ends behind its place
@@ -255,7 +256,7 @@ pub record Going (l : Lister) (s out₀ : List ℕ) (room : ℕ) (x : Lister) (a
 pub going-start : (l : Lister) (s out : List ℕ) (room : ℕ) → Going l s out room l 0 0 out
 going-start l s out room = record { w = []; same = refl; wrote = wider 0 [] 0 (length out) out 0 out (omega arith) (puts-nil 0 out) }
 
-pub going-on : (l : Lister) (s out₀ : List ℕ) (room : ℕ) (x : Lister) (at n : ℕ) (out : List ℕ) (r : Part) (after : List ℕ) → room + 315 ≤ length out₀ → n ≤ room
+pub going-on : (l : Lister) (s out₀ : List ℕ) (room : ℕ) (x : Lister) (at n : ℕ) (out : List ℕ) (r : Part) (after : List ℕ) → room + answerMost ≤ length out₀ → n ≤ room
     → Going l s out₀ room x at n out → Turned x s at n out r after → Going l s out₀ room (r .lister) (r .at) (r .put) after
 going-on l s out₀ room x at n out r after h k g t =
     let u = g .wrote in
@@ -264,8 +265,8 @@ going-on l s out₀ room x at n out r after h k g t =
     record {
       w = g .w ++ t .said;
       same = g .same ∙ t .same room (g .w) (omega arith);
-      wrote = wider 0 (g .w ++ t .said) (length (g .w) + 315) (length out₀) out₀ (r .put) after (rw (length-append (g .w) (t .said)) (omega (arith, v .small)))
-          (puts-join 0 (g .w) (t .said) (length (g .w)) 315 out₀ n out (r .put) after (omega arith) (wider 0 (g .w) (length out₀) (length (g .w)) out₀ n out (omega arith) u) v);
+      wrote = wider 0 (g .w ++ t .said) (length (g .w) + answerMost) (length out₀) out₀ (r .put) after (rw (length-append (g .w) (t .said)) (omega (arith, v .small)))
+          (puts-join 0 (g .w) (t .said) (length (g .w)) answerMost out₀ n out (r .put) after (omega arith) (wider 0 (g .w) (length out₀) (length (g .w)) out₀ n out (omega arith) u) v);
     }
 
 done-by : (room : ℕ) (f : Feed) (s : List ℕ) (at : ℕ) (p : Bool) → ltb at (length s) ≡ p → (p && leb (length (f .said)) room) ≡ false
@@ -281,38 +282,38 @@ parted-as : (l : Lister) (s out : List ℕ) (x : Lister) (w : List ℕ) (at n : 
     → n ≡ length w → after ≡ put 0 w out → Parted l s out (record { lister = x; at = at; put = n }) after
 parted-as l s out x w at n after e f m = record { lister = rw e refl; read = rw e refl; written = rw e f; memory = rw e m }
 
-pub going-end : (l : Lister) (s out₀ : List ℕ) (room : ℕ) (x : Lister) (at n : ℕ) (out : List ℕ) → 315 ≤ length out₀ → room ≡ length out₀ - 315
+pub going-end : (l : Lister) (s out₀ : List ℕ) (room : ℕ) (x : Lister) (at n : ℕ) (out : List ℕ) → answerMost ≤ length out₀ → room ≡ length out₀ - answerMost
     → (ltb at (length s) && leb n room) ≡ false → Going l s out₀ room x at n out → Parted l s out₀ (record { lister = x; at = at; put = n }) out
 unfolding partOf
 going-end l s out₀ room x at n out h er t g =
     let u = g .wrote in
     let pl : n ≡ length (g .w) = u .place ∙ zero-add _ in
     parted-as l s out₀ x (g .w) at n out
-    (rw (le-ltb (length out₀) most h, ← er) (g .same ∙ takes-done room (record { lister = x; said = g .w }) s at (rw pl at t)))
+    (rw (le-ltb (length out₀) answerMost h, ← er) (g .same ∙ takes-done room (record { lister = x; said = g .w }) s at (rw pl at t)))
     pl (u .memory)
 
-pub part-none : (l : Lister) (s out : List ℕ) → length out < 315 → Parted l s out (record { lister = l; at = 0; put = 0 }) out
+pub part-none : (l : Lister) (s out : List ℕ) → length out < answerMost → Parted l s out (record { lister = l; at = 0; put = 0 }) out
 unfolding partOf
-part-none l s out h = parted-as l s out l [] 0 0 out (rw (lt-ltb (length out) most h)) refl (sym (put-nil 0 out))
+part-none l s out h = parted-as l s out l [] 0 0 out (rw (lt-ltb (length out) answerMost h)) refl (sym (put-nil 0 out))
 
 pub tests : (at len n room : ℕ) → (ltb at len && leb n room) ≡ true → (at < len) × (n ≤ room)
 tests at len n room t = let p = and-split (ltb at len) (leb n room) t in (ltb-true at len (p .0), leb-true n room (p .1))
 
 -- ---- an answer written
-pub answer-reports : (at : ℕ) (a : Answer) (out : List ℕ) (r : ℕ) (after : List ℕ) → a .no ≡ taken → at + 315 ≤ length out → Writes (reportsText (a .reports)) 315 at out r after
-    → Puts at (answerText a) 315 out r after
+pub answer-reports : (at : ℕ) (a : Answer) (out : List ℕ) (r : ℕ) (after : List ℕ) → a .no ≡ taken → at + answerMost ≤ length out → Writes (reportsText (listed (a .reports))) answerMost at out r after
+    → Puts at (answerText a) answerMost out r after
 unfolding answerText
-answer-reports at a out r after e h w = rw (eq-eqb (a .no) taken e) (writes-puts (reportsText (a .reports)) 315 at out r after h (reports-small (a .reports)) w)
+answer-reports at a out r after e h w = rw (eq-eqb (a .no) taken e) (writes-puts (reportsText (listed (a .reports))) answerMost at out r after h (reports-small (a .reports)) w)
 
-pub answer-refusal : (at : ℕ) (a : Answer) (out : List ℕ) (r : ℕ) (after : List ℕ) → (a .no ≡ taken → ⊥) → at + 315 ≤ length out → Writes (refusedText (a .no)) 29 at out r after
-    → Puts at (answerText a) 315 out r after
+pub answer-refusal : (at : ℕ) (a : Answer) (out : List ℕ) (r : ℕ) (after : List ℕ) → (a .no ≡ taken → ⊥) → at + answerMost ≤ length out → Writes (refusedText (a .no)) refusedMost at out r after
+    → Puts at (answerText a) answerMost out r after
 unfolding answerText
 answer-refusal at a out r after e h w =
     let k = refused-small (a .no) in
-    rw (ne-eqb (a .no) taken e) (wider at (refusedText (a .no)) 29 315 out r after (omega arith) (writes-puts (refusedText (a .no)) 29 at out r after (omega arith) k w))
+    rw (ne-eqb (a .no) taken e) (wider at (refusedText (a .no)) refusedMost answerMost out r after (omega arith) (writes-puts (refusedText (a .no)) refusedMost at out r after (omega arith) k w))
 
 pub acted : (l : Lister) (e : Event) (at n : ℕ) (out : List ℕ) (t : Stepped) (rd : Reading) (m : ℕ) (after : List ℕ) → t ≡ stepOf (l .link) (l .counts) e → rd ≡ freshReading
-    → Puts n (answerText (t .answer)) 315 out m after
+    → Puts n (answerText (t .answer)) answerMost out m after
     → Acted l e at n out (record { lister = record { link = t .answer .link; counts = t .counts; reading = rd }; at = at; put = m }) after
 unfolding stepped saidOf
 acted l e at n out t rd m after et er u = record { lister = rw (et, er) refl; place = refl; wrote = rw et at u }
@@ -320,18 +321,18 @@ acted l e at n out t rd m after et er u = record { lister = rw (et, er) refl; pl
 -- ---- the end
 pub ended-none : (l : Lister) (out : List ℕ) → isEmpty (l .reading) ≡ true → Ended l out (record { lister = l; at = 0; put = 0 }) out
 unfolding finished
-ended-none l out e = record { lister = rw e refl; wrote = rw e (wider 0 [] 0 315 out 0 out (omega arith) (puts-nil 0 out)) }
+ended-none l out e = record { lister = rw e refl; wrote = rw e (wider 0 [] 0 answerMost out 0 out (omega arith) (puts-nil 0 out)) }
 
 -- as if the line feed came
 feed-taken : (l : Lister) (room : ℕ) → takes room (record { lister = l; said = [] }) (10 ∷ []) 0 ≡ record { feed = lineEnded (record { lister = l; said = [] }); at = 1 }
 unfolding takes feedByte
 feed-taken l room = rw (le-leb 0 room (omega arith))
 
-part-fed-once : (l : Lister) (n : ℕ) → 315 ≤ n → partOf l (10 ∷ []) n ≡ record { feed = lineEnded (record { lister = l; said = [] }); at = 1 }
+part-fed-once : (l : Lister) (n : ℕ) → answerMost ≤ n → partOf l (10 ∷ []) n ≡ record { feed = lineEnded (record { lister = l; said = [] }); at = 1 }
 unfolding partOf
-part-fed-once l n h = rw (le-ltb n most h) (feed-taken l (n - most))
+part-fed-once l n h = rw (le-ltb n answerMost h) (feed-taken l (n - answerMost))
 
-pub ended-line : (l : Lister) (out : List ℕ) (r : Part) (after : List ℕ) → 315 ≤ length out → isEmpty (l .reading) ≡ false → Parted l (10 ∷ []) out r after → Ended l out r after
+pub ended-line : (l : Lister) (out : List ℕ) (r : Part) (after : List ℕ) → answerMost ≤ length out → isEmpty (l .reading) ≡ false → Parted l (10 ∷ []) out r after → Ended l out r after
 unfolding finished
 ended-line l out r after h f p =
     let e = part-fed-once l (length out) h in
@@ -341,16 +342,16 @@ ended-line l out r after h f p =
       wrote = rw f (record { place = rw e at (p .written) ∙ sym (zero-add _); small = small; memory = rw e at (p .memory); kept = part-kept l (10 ∷ []) out r after p });
     }
 
-pub end-none : (p out : List ℕ) → length out < 487 → Writes p 487 0 out 0 out
-end-none p out h = record { place = rw (lt-leb 487 (length out) h) refl; memory = rw (lt-leb 487 (length out) h) refl }
+pub end-none : (p out : List ℕ) → length out < endingMost → Writes p endingMost 0 out 0 out
+end-none p out h = record { place = rw (lt-leb endingMost (length out) h) refl; memory = rw (lt-leb endingMost (length out) h) refl }
 
-pub end-written : (l : Lister) (out : List ℕ) (p : Part) (o1 : List ℕ) (held r : ℕ) (after : List ℕ) → 487 ≤ length out → Ended l out p o1 → held ≡ heldOf (p .lister .link)
-    → Writes (endText (p .lister .counts) held) 172 (p .put) o1 r after → Writes (endingOf l) 487 0 out r after
+pub end-written : (l : Lister) (out : List ℕ) (p : Part) (o1 : List ℕ) (held r : ℕ) (after : List ℕ) → endingMost ≤ length out → Ended l out p o1 → held ≡ heldOf (p .lister .link)
+    → Writes (endText (p .lister .counts) held) endMost (p .put) o1 r after → Writes (endingOf l) endingMost 0 out r after
 unfolding endingOf
 end-written l out p o1 held r after h d eh w =
     let u = d .wrote in
     let f = finished (record { lister = l; said = [] }) in
     let pl : p .put ≡ length (f .said) = u .place ∙ zero-add _ in
-    let w2 : Writes (endText (f .lister .counts) (heldOf (f .lister .link))) 172 (p .put) o1 r after = rw (eh, d .lister) at w in
-    let v = writes-puts (endText (f .lister .counts) (heldOf (f .lister .link))) 172 (p .put) o1 r after (omega (arith, u .small, u .kept)) (end-small (f .lister .counts) (heldOf (f .lister .link))) w2 in
-    puts-writes _ 487 0 out r after (omega arith) (puts-join 0 (f .said) _ 315 172 out (p .put) o1 r after (omega arith) u v)
+    let w2 : Writes (endText (f .lister .counts) (heldOf (f .lister .link))) endMost (p .put) o1 r after = rw (eh, d .lister) at w in
+    let v = writes-puts (endText (f .lister .counts) (heldOf (f .lister .link))) endMost (p .put) o1 r after (omega (arith, u .small, u .kept)) (end-small (f .lister .counts) (heldOf (f .lister .link))) w2 in
+    puts-writes _ endingMost 0 out r after (omega arith) (puts-join 0 (f .said) _ answerMost endMost out (p .put) o1 r after (omega arith) u v)

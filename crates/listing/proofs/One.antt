@@ -7,7 +7,7 @@ use Rattle.base.specs.Choice.{if_then_else_}
 use Rattle.base.proofs.One.{Only, only, only-both}
 use Rattle.text.specs.Text.{put, fits, Writes}
 use Rattle.listing.specs.Listing.{freshLister, endingOf}
-use Rattle.listing.specs.Parts.{partOf, Parted}
+use Rattle.listing.specs.Parts.{endingMost, partOf, Parted}
 use Rattle.listing.specs.declared.Lister.{Lister}
 use Rattle.listing.specs.declared.Part.{Part}
 
@@ -22,6 +22,6 @@ parted l s out r after p i = record { lister = p .lister i; at = p .read i; put 
 pub list-part : (l : Lister) (s out : List ℕ) → Only (λ (x : Part × List ℕ). Parted l s out (x .0) (x .1))
 list-part l s out = only-both _ (put 0 (partOf l s (length out) .feed .said) out) (λ x p. (parted l s out (x .0) (x .1) p, p .memory))
 
-pub finish : (l : Lister) (out : List ℕ) → Only (λ (x : ℕ × List ℕ). Writes (endingOf l) 487 0 out (x .0) (x .1))
+pub finish : (l : Lister) (out : List ℕ) → Only (λ (x : ℕ × List ℕ). Writes (endingOf l) endingMost 0 out (x .0) (x .1))
 finish l out =
-    only-both (if fits 0 487 out then 0 + length (endingOf l) else 0) (if fits 0 487 out then put 0 (endingOf l) out else out) (λ x w. (w .place, w .memory))
+    only-both (if fits 0 endingMost out then 0 + length (endingOf l) else 0) (if fits 0 endingMost out then put 0 (endingOf l) out else out) (λ x w. (w .place, w .memory))

@@ -6,7 +6,7 @@ use lib.ListN.{length, take, drop, length-drop, take-append-drop}
 use native.Mathlib.Omega.{arith}
 use Rattle.text.specs.Text.{headText}
 use Rattle.listing.specs.Listing.{Feed, freshLister, feed, endingOf, listingOf}
-use Rattle.listing.specs.Parts.{most, partOf}
+use Rattle.listing.specs.Parts.{answerMost, partOf}
 use Rattle.listing.specs.declared.Lister.{Lister}
 use Rattle.listing.proofs.Cuts.{feed-said, feed-append, part-fed, reads-on}
 
@@ -39,7 +39,7 @@ call-rest n l s =
     ∙ ap (feed (record { lister = l; said = [] })) (take-append-drop (p .at) s)))
 
 -- with any number of turns that is enough, nothing of the part is left
-pub drained-in : (turns n : ℕ) (l : Lister) (s : List ℕ) → length s ≤ turns → most ≤ n → drainedIn turns n l s ≡ feed (record { lister = l; said = [] }) s
+pub drained-in : (turns n : ℕ) (l : Lister) (s : List ℕ) → length s ≤ turns → answerMost ≤ n → drainedIn turns n l s ≡ feed (record { lister = l; said = [] }) s
 unfolding feed
 drained-in zero n l [] k h = refl
 drained-in zero n l (b ∷ s) k h = absurd (omega arith)
@@ -51,7 +51,7 @@ drained-in (suc turns) n l (b ∷ s) k h =
     ap (behind (p .feed .said)) (drained-in turns n (p .feed .lister) (drop (p .at) (b ∷ s)) left h) ∙ call-rest n l (b ∷ s)
 
 -- The loop over a part gives what all bytes of the part give.
-pub drained-fed : (n : ℕ) (l : Lister) (s : List ℕ) → most ≤ n → drained n l s ≡ feed (record { lister = l; said = [] }) s
+pub drained-fed : (n : ℕ) (l : Lister) (s : List ℕ) → answerMost ≤ n → drained n l s ≡ feed (record { lister = l; said = [] }) s
 drained-fed n l s h = drained-in (length s) n l s (omega arith) h
 
 -- ---- PART AFTER PART
@@ -59,7 +59,7 @@ drained-fed n l s h = drained-in (length s) n l s (omega arith) h
 pub record Piece : Type 0 where
   pub bytes : List ℕ
   pub room : ℕ
-  pub enough : most ≤ room
+  pub enough : answerMost ≤ room
 
 -- the input: the bytes of all parts, in order
 abbrev pub joined : List Piece → List ℕ

@@ -5,6 +5,7 @@ use lib.Dec.{eqb}
 use Rattle.base.specs.Choice.{if_then_else_}
 use Rattle.base.specs.Numbers.{taken}
 use Rattle.events.specs.declared.Event.{Event}
+use Rattle.reports.specs.Reporting.{listed}
 use Rattle.reports.specs.Counting.{zeroCounts}
 use Rattle.link.specs.Handling.{freshLink}
 use Rattle.link.specs.Stepping.{stepOf}
@@ -23,7 +24,7 @@ freshLister = record { link = freshLink; counts = zeroCounts; reading = freshRea
 -- ---- a line
 -- what is written for an answer: "a line per report", "`refused N` for a refused line"
 unfoldable pub answerText : Answer → List ℕ
-answerText a = if eqb (a .no) taken then reportsText (a .reports) else refusedText (a .no)
+answerText a = if eqb (a .no) taken then reportsText (listed (a .reports)) else refusedText (a .no)
 
 -- the line's event makes a step of the link: the lister after it, and what is written
 unfoldable pub stepped : Lister → Event → Lister

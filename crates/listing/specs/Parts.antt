@@ -5,14 +5,18 @@ use mathlib.Core.List.{List, [], _∷_}
 use lib.Dec.{leb, ltb}
 use lib.ListN.{length}
 use Rattle.base.specs.Choice.{if_then_else_}
-use Rattle.text.specs.Text.{put}
+use Rattle.text.specs.Text.{reportsMost, endMost, put}
 use Rattle.listing.specs.Listing.{Feed, feedByte}
 use Rattle.listing.specs.declared.Lister.{Lister}
 use Rattle.listing.specs.declared.Part.{Part}
 
--- no byte has more written for it, not even the line feed of a line with three reports
-abbrev pub most : ℕ
-most = 315
+-- the most bytes that are written for a byte of the input: for a line feed an answer's lines, which are a refusal's or its reports'
+abbrev pub answerMost : ℕ
+answerMost = reportsMost
+
+-- the most at the end of the input: an answer's lines, for a last line without its line feed, and the end line
+abbrev pub endingMost : ℕ
+endingMost = answerMost + endMost
 
 -- how far a part is read
 pub record Extent : Type 0 where
@@ -27,7 +31,7 @@ takes room f (b ∷ bs) at = if leb (length (f .said)) room then takes room (fee
 -- a part s, and a buffer of n bytes: while there is room for what may be written for one more byte
 unfoldable pub partOf : Lister → List ℕ → ℕ → Extent
 partOf l s n =
-    if ltb n most then record { feed = record { lister = l; said = [] }; at = 0 } else takes (n - most) (record { lister = l; said = [] }) s 0
+    if ltb n answerMost then record { feed = record { lister = l; said = [] }; at = 0 } else takes (n - answerMost) (record { lister = l; said = [] }) s 0
 
 -- what `list_part` promises: the lister, the bytes read and written, and all of the buffer
 pub record Parted (l : Lister) (s out : List ℕ) (r : Part) (after : List ℕ) : Type 0 where

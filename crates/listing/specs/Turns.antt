@@ -15,7 +15,7 @@ use Rattle.lines.specs.declared.Reading.{Reading}
 use Rattle.lines.specs.declared.Row.{Row}
 use Rattle.text.specs.Text.{Puts}
 use Rattle.listing.specs.Listing.{stepped, saidOf, finished}
-use Rattle.listing.specs.Parts.{most, takes}
+use Rattle.listing.specs.Parts.{answerMost, takes}
 use Rattle.listing.specs.declared.Lister.{Lister}
 use Rattle.listing.specs.declared.Part.{Part}
 use Rattle.listing.specs.declared.Stretch.{Stretch}
@@ -24,7 +24,7 @@ use Rattle.listing.specs.declared.Stretch.{Stretch}
 pub record Acted (l : Lister) (e : Event) (at put : ℕ) (out : List ℕ) (r : Part) (after : List ℕ) : Type 0 where
   pub lister : r .lister ≡ stepped l e
   pub place : r .at ≡ at
-  pub wrote : Puts put (saidOf l e) most out (r .put) after
+  pub wrote : Puts put (saidOf l e) answerMost out (r .put) after
 
 -- the reading behind the lines between two places: the one in front of them if there are none
 unfoldable pub readingAfter : Reading → ℕ → ℕ → Reading
@@ -61,9 +61,9 @@ pub record Turned (l : Lister) (s : List ℕ) (at put : ℕ) (out : List ℕ) (r
   pub ahead : at < length s → at < r .at
   pub same : (room : ℕ) (o : List ℕ) → length o ≤ room
       → takes room (record { lister = l; said = o }) (drop at s) at ≡ takes room (record { lister = r .lister; said = o ++ said }) (drop (r .at) s) (r .at)
-  pub wrote : Puts put said most out (r .put) after
+  pub wrote : Puts put said answerMost out (r .put) after
 
 -- a last line without its line feed, written at the front
 pub record Ended (l : Lister) (out : List ℕ) (r : Part) (after : List ℕ) : Type 0 where
   pub lister : r .lister ≡ finished (record { lister = l; said = [] }) .lister
-  pub wrote : Puts 0 (finished (record { lister = l; said = [] }) .said) most out (r .put) after
+  pub wrote : Puts 0 (finished (record { lister = l; said = [] }) .said) answerMost out (r .put) after

@@ -5,7 +5,7 @@ ghost use lib.ListN.{length, drop};
 ghost use Rattle.text.specs.Text.{Puts, Writes};
 ghost use Rattle.lines.specs.Getting.{gotOf};
 ghost use Rattle.listing.specs.Listing.{freshLister, answerText, heldOf, endingOf};
-ghost use Rattle.listing.specs.Parts.{Parted};
+ghost use Rattle.listing.specs.Parts.{answerMost, endingMost, Parted};
 ghost use Rattle.listing.specs.Turns.{Acted, readingAfter, RowAt, Glided, Stretched, Turned, Ended};
 use events::Event;
 use lines::Got;
@@ -39,11 +39,11 @@ struct Stretch {
     row: Row,
 }
 
-// No line of input has more written for it.
-const MOST: usize = 315;
+// No line of input has more written for it than an answer's lines, ..
+pub const ANSWER_MOST: usize = text::REPORTS_MOST;
 
-// Nor has the end of the input: a last line, and the end line.
-const MOST_AT_END: usize = 487;
+// .. nor has the end of the input: these of a last line, and the end line.
+pub const ENDING_MOST: usize = ANSWER_MOST + text::END_MOST;
 
 // A listing begins: a fresh link, counts at 0, and no line yet. The header is `text::put_head`'s.
 pub fn begin() -> Lister
@@ -58,8 +58,8 @@ pub fn begin() -> Lister
 
 // An answer's lines: its refusal, or its reports.
 fn put_answer(out: &mut [u8], at: usize, a: Answer) -> usize
-    requires { ⌜ at + 315 ≤ length (now out) ⌝ }
-    ensures { λ r. ⌜ Puts at (answerText a) 315 (now (out .entry)) r (now (out .exit)) ⌝ }
+    requires { ⌜ at + answerMost ≤ length (now out) ⌝ }
+    ensures { λ r. ⌜ Puts at (answerText a) answerMost (now (out .entry)) r (now (out .exit)) ⌝ }
 {
     let rs = a.reports;
     if a.no == base::TAKEN {
@@ -70,7 +70,7 @@ fn put_answer(out: &mut [u8], at: usize, a: Answer) -> usize
 
 // A line has ended in front of `at`: its event makes a step, and the answer is written.
 fn act(l: Lister, e: Event, at: usize, out: &mut [u8], put: usize) -> Part
-    requires { ⌜ put + 315 ≤ length (now out) ⌝ }
+    requires { ⌜ put + answerMost ≤ length (now out) ⌝ }
     ensures { λ r. ⌜ Acted l e at put (now (out .entry)) r (now (out .exit)) ⌝ }
 {
     let k = l.link;
@@ -172,7 +172,7 @@ fn pick(r: Reading, q: Row, s: &[u8], at: usize) -> Got
 // What was got of a line is taken.
 fn take_line(l: Lister, g: Got, s: &[u8], at: usize, out: &mut [u8], put: usize) -> Part
     requires { ⌜ g ≡ gotOf (l .reading) (drop at (now s)) at ⌝ }
-    requires { ⌜ put + 315 ≤ length (now out) ⌝ }
+    requires { ⌜ put + answerMost ≤ length (now out) ⌝ }
     ensures { λ r. ⌜ Turned l (now (s .entry)) at put (now (out .entry)) r (now (out .exit)) ⌝ }
 {
     let e = g.event;
@@ -196,7 +196,7 @@ fn take_line(l: Lister, g: Got, s: &[u8], at: usize, out: &mut [u8], put: usize)
 
 // Lines that write nothing, and one that may.
 fn turn(l: Lister, s: &[u8], from: usize, out: &mut [u8], put: usize) -> Part
-    requires { ⌜ put + 315 ≤ length (now out) ⌝ }
+    requires { ⌜ put + answerMost ≤ length (now out) ⌝ }
     ensures { λ r. ⌜ Turned l (now (s .entry)) from put (now (out .entry)) r (now (out .exit)) ⌝ }
 {
     let y = stretch_from(l, s, from);
@@ -222,14 +222,14 @@ pub fn list_part(l: Lister, s: &[u8], out: &mut [u8]) -> Part
     let mut x = l;
     let mut at = 0;
     let mut put = 0;
-    if out.len() < MOST {
+    if out.len() < ANSWER_MOST {
         return Part {
             lister: x,
             at: at,
             put: put,
         };
     }
-    let room = out.len() - MOST;
+    let room = out.len() - ANSWER_MOST;
     while (at < s.len()) & (put <= room) {
         let t = turn(x, s, at, out, put);
         x = t.lister;
@@ -252,7 +252,7 @@ fn held(l: Link) -> u64
 
 // The last line, if its line feed is missing: as if the line feed came.
 fn end_line(l: Lister, out: &mut [u8]) -> Part
-    requires { ⌜ 315 ≤ length (now out) ⌝ }
+    requires { ⌜ answerMost ≤ length (now out) ⌝ }
     ensures { λ r. ⌜ Ended l (now (out .entry)) r (now (out .exit)) ⌝ }
 {
     let reading = l.reading;
@@ -267,11 +267,11 @@ fn end_line(l: Lister, out: &mut [u8]) -> Part
 }
 
 // The input has ended: a last line without its line feed, and the end line. Where the buffer has
-// fewer than 487 bytes, nothing is written and the answer is 0.
+// fewer than ENDING_MOST bytes, nothing is written and the answer is 0.
 pub fn finish(l: Lister, out: &mut [u8]) -> usize
-    ensures { λ r. ⌜ Writes (endingOf l) 487 0 (now (out .entry)) r (now (out .exit)) ⌝ }
+    ensures { λ r. ⌜ Writes (endingOf l) endingMost 0 (now (out .entry)) r (now (out .exit)) ⌝ }
 {
-    if out.len() < MOST_AT_END {
+    if out.len() < ENDING_MOST {
         return 0;
     }
     let p = end_line(l, out);

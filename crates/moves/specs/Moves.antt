@@ -13,7 +13,7 @@ use Rattle.timing.specs.Timing.{isPassed}
 use Rattle.events.specs.declared.Side.{Side}
 use Rattle.starts.specs.Starts.{originOf, judged, isOver, isLast, onward, slowStart, fastStart}
 use Rattle.talk.specs.Talk.{isFirst, firstReason, begun, laterReason, endReason, isSum, grown, isStopped}
-use Rattle.phases.specs.Phases.{isStarting, isQuiet, isHeld, isOpen, down, starting, connected, holding, damaged, settled, framed}
+use Rattle.phases.specs.Phases.{isStarting, isQuiet, isHeld, isOpen, down, off, starting, connected, holding, damaged, settled, framed}
 use Rattle.phases.specs.declared.State.{State}
 use Rattle.phases.specs.declared.State.the-variants.{Down, Starting, Quiet, Held, Damage}
 use Rattle.phases.specs.declared.Phase.{Phase}
@@ -63,18 +63,18 @@ sinceOrigin p mark time = gapOf (originOf (p .start .stage) (p .fall) mark) time
 
 unfoldable pub afterWindow : Phase → Micros → Micros → Move
 afterWindow p mark time =
-    if isStarting (p .state) && isOver (p .start) (sinceOrigin p mark time) then makes failedReport windowOver down else still p
+    if isStarting (p .state) && isOver (p .start) (sinceOrigin p mark time) then makes failedReport windowOver off else still p
 
 -- ---- closing
 -- "A, W or D then close what is open: a held message as report 2 reason 2, damage with its reason, initialization as report 4 reason 2"
 unfoldable pub closing : Phase → Move
 closing p =
     if isOpen (p .state) then makes damageReport (lossReason p closed) (settled p) else
-    if isStarting (p .state) then makes failedReport closed down else still p
+    if isStarting (p .state) then makes failedReport closed off else still p
 
 -- "if connected, report 7 (reason 4 for A or W, 3 for D), down": behind `closing`, so that a connected link has nothing open
 unfoldable pub leaving : Phase → ℕ → Move
-leaving p reason = if isQuiet (p .state) then makes downReport reason down else still p
+leaving p reason = if isQuiet (p .state) then makes downReport reason off else still p
 
 -- ---- starts
 -- "A or W needs 300 ms from the old mark to its start, else report 8 and down; this is judged before the length of the low."
@@ -95,13 +95,13 @@ isGoodLow fall rise = not (isEarlier (gapOf fall rise) (micros 24_000)) && not (
 unfoldable pub startingFast : Micros → Micros → Micros → Move
 startingFast mark fall rise =
     if not (isIdle mark fall) then makes notIdleReport noReason down else
-    if isGoodLow fall rise then still (starting fall fastStart) else makes failedReport wrongLow down
+    if isGoodLow fall rise then still (starting fall fastStart) else makes failedReport wrongLow off
 
 -- ---- a byte
 -- "A byte that fails joins its initialization: report 4, down." "Success is report 3."
 unfoldable pub startByte : Phase → Side → ℕ → Micros → Move
 startByte p side v gap =
-    if not (eqb (judged (p .start) side v gap) noReason) then makes failedReport (judged (p .start) side v gap) down else
+    if not (eqb (judged (p .start) side v gap) noReason) then makes failedReport (judged (p .start) side v gap) off else
     if isLast (p .start .stage) then makes connectedReport noReason (connected (p .start)) else
     still (starting (p .fall) (onward (p .start) v))
 

@@ -1,1 +1,2 @@
+pub mod StateTests
 pub mod One

@@ -101,6 +101,10 @@ unconnected state fall start = record {
 unfoldable pub down : Phase
 down = unconnected Down (micros 0) noStart
 
+-- down by a failed initialization, a drop or a restart, as a fresh link is: a start from there is judged as a first one
+abbrev pub off : Phase
+off = down
+
 -- an initialization; a fast one has the fall of its wake-up
 unfoldable pub starting : Micros → Start → Phase
 starting fall start = unconnected Starting fall start

@@ -2,10 +2,12 @@
 -- Assumes nothing.
 use Prim.Native.Nat.{ℕ}
 use mathlib.Core.Bool.{Bool, _||_}
+use mathlib.Core.List.{List, [], _∷_}
 use lib.Dec.{eqb, leb, ltb}
 use Rattle.base.specs.Choice.{if_then_else_}
 use Rattle.base.specs.Sums.{countSum}
 use Rattle.base.specs.Reports.{frameReport, damageReport, connectedReport, failedReport, outsideReport}
+use Rattle.reports.specs.Reporting.{listed}
 use Rattle.reports.specs.declared.Report.{Report}
 use Rattle.reports.specs.declared.Reports.{Reports}
 use Rattle.reports.specs.declared.Counts.{Counts}
@@ -45,13 +47,10 @@ countedOne c x = record {
   damages = countSum (c .damages) (share (eqb (x .number) damageReport) 1);
 }
 
--- the reports of an event are counted, the first n of the three
-unfoldable pub countedAll : Counts → Reports → Counts
-countedAll c rs =
-    if eqb (rs .n) 0 then c else
-    if eqb (rs .n) 1 then countedOne c (rs .a) else
-    if eqb (rs .n) 2 then countedOne (countedOne c (rs .a)) (rs .b) else
-    countedOne (countedOne (countedOne c (rs .a)) (rs .b)) (rs .c)
+-- reports are counted, one after the other
+unfoldable pub countedAll : Counts → List Report → Counts
+countedAll c [] = c
+countedAll c (x ∷ xs) = countedAll (countedOne c x) xs
 
 -- a byte is heard
 unfoldable pub countedByte : Counts → Bool → Counts
@@ -67,4 +66,4 @@ countedByte c hears = record {
 
 -- an event that was taken is counted: its byte if it is one, and its reports
 unfoldable pub countedEvent : Counts → Bool → Reports → Counts
-countedEvent c hears rs = countedAll (countedByte c hears) rs
+countedEvent c hears rs = countedAll (countedByte c hears) (listed rs)

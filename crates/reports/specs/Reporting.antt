@@ -5,6 +5,7 @@ use Prim.Native.Nat.{ℕ, _-_}
 use mathlib.Core.Bool.{Bool}
 use mathlib.Core.List.{List, [], _∷_}
 use lib.Dec.{eqb, leb}
+use lib.ListN.{take}
 use Rattle.base.specs.Choice.{if_then_else_}
 use Rattle.units.specs.Units.{micros}
 use Rattle.phases.specs.declared.Phase.{Phase}
@@ -15,6 +16,10 @@ use Rattle.reports.specs.declared.Run.{Run}
 
 abbrev pub noReport : Report
 noReport = record { first = 0; bytes = 0; time = micros 0; number = 0; reason = 0 }
+
+-- the places for the reports of an event: "At most three per event"
+abbrev pub places : ℕ
+places = 3
 
 abbrev pub noReports : Reports
 noReports = record { a = noReport; b = noReport; c = noReport; n = 0 }
@@ -34,20 +39,16 @@ reportOf r number reason = record {
   reason = reason;
 }
 
--- behind the others; "At most three per event"
+-- behind the others, in the next place
 unfoldable pub appended : Reports → Report → Reports
 appended rs r =
     if eqb (rs .n) 0 then record { a = r; b = rs .b; c = rs .c; n = 1 } else
     if eqb (rs .n) 1 then record { a = rs .a; b = r; c = rs .c; n = 2 } else
     if eqb (rs .n) 2 then record { a = rs .a; b = rs .b; c = r; n = 3 } else rs
 
--- the reports in the three places, in order
+-- the reports in order: those in the first n places
 unfoldable pub listed : Reports → List Report
-listed rs =
-    if eqb (rs .n) 0 then [] else
-    if eqb (rs .n) 1 then rs .a ∷ [] else
-    if eqb (rs .n) 2 then rs .a ∷ rs .b ∷ [] else
-    rs .a ∷ rs .b ∷ rs .c ∷ []
+listed rs = take (rs .n) (rs .a ∷ rs .b ∷ rs .c ∷ [])
 
 -- a move is made: its phase, and its report if it has one
 unfoldable pub told : Run → Move → Run

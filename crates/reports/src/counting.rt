@@ -1,5 +1,6 @@
 // The seven counts.
 ghost use mathlib.Core.Path.{_≡_};
+ghost use Rattle.reports.specs.Reporting.{listed};
 ghost use Rattle.reports.specs.Counting.{zeroCounts, isFull, countedOne, countedAll, countedByte, countedEvent};
 use crate::Counts;
 use crate::Report;
@@ -69,7 +70,7 @@ fn count_one(c: Counts, x: Report) -> Counts
 
 // An event's reports are counted.
 fn count_all(c: Counts, rs: Reports) -> Counts
-    ensures { λ r. ⌜ r ≡ countedAll c rs ⌝ }
+    ensures { λ r. ⌜ r ≡ countedAll c (listed rs) ⌝ }
 {
     let x = rs.a;
     let y = rs.b;

@@ -21,7 +21,10 @@ pub struct Report {
     pub reason: u8,
 }
 
-// The reports of an event, the first n of a, b and c.
+// The places for the reports of an event.
+pub const PLACES: usize = 3;
+
+// The reports of an event: the first n of the places.
 pub struct Reports {
     pub a: Report,
     pub b: Report,

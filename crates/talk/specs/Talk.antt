@@ -1,9 +1,11 @@
 -- Messages of a connected link, byte by byte, and what a frame does (document 01, "Connected."; ISO 14230-2, clause 4). No byte of a message is kept but
 -- its first seven data bytes.
 -- Assumes nothing.
-use Prim.Native.Nat.{ℕ, _+_, _*_, _/_, _%_}
+use Prim.Native.Nat.{ℕ, _+_, _-_, _*_, _/_, _%_, _^_}
 use mathlib.Core.Bool.{Bool, true, false, not, _&&_, _||_}
+use mathlib.Core.List.{List, [], _∷_}
 use lib.Dec.{eqb, ltb}
+use lib.ListN.{length}
 use Rattle.base.specs.Choice.{if_then_else_}
 use Rattle.base.specs.Numbers.{taken}
 use Rattle.base.specs.Sums.{byteSum}
@@ -139,10 +141,15 @@ isInside Sum = false
 abbrev pub endReason : Pair → ℕ
 endReason pair = brokenOff
 
--- the first seven data bytes as one number, the first byte in front: with v as the data byte at an index. (The remainder keeps it in 64 bits on any
+-- bytes as one number, the first in front
+abbrev pub number : List ℕ → ℕ
+number [] = 0
+number (b ∷ bs) = b * 256 ^ length bs + number bs
+
+-- the first seven data bytes as one number: with v as the data byte at an index. (The remainder, its last six bytes, keeps it in 64 bits on any
 -- message; where fewer than seven have come it changes nothing.)
 unfoldable pub withSeven : ℕ → ℕ → ℕ → ℕ
-withSeven seven at v = if ltb at 7 then seven % 281_474_976_710_656 * 256 + v else seven
+withSeven seven at v = if ltb at 7 then seven % 256 ^ 6 * 256 + v else seven
 
 -- the part behind a data byte, when so many have come
 unfoldable pub afterData : ℕ → ℕ → Part
@@ -199,17 +206,18 @@ unfoldable pub grown : Message → ℕ → Message
 grown m v = grownAt (m .part) m v
 
 -- ---- what a frame does, by its data
-unfoldable pub isExactly : Message → ℕ → Bool
-isExactly m two = eqb (m .length) 2 && eqb (m .seven) two
+unfoldable pub isExactly : Message → List ℕ → Bool
+isExactly m bytes = eqb (m .length) (length bytes) && eqb (m .seven) (number bytes)
 
+-- 83 03 in front of five bytes
 unfoldable pub asksCodes : Message → Bool
-asksCodes m = eqb (m .length) 7 && eqb (m .seven / 1_099_511_627_776) 0x8303
+asksCodes m = eqb (m .length) 7 && eqb (m .seven / 256 ^ 5) (number (0x83 ∷ 0x03 ∷ []))
 
 -- the tester frame of each request: "starting 82", "exactly 83 01", "exactly 83 03 and five codes"; the other two have none
 abbrev pub asksFor : Request → Message → Bool
 asksFor Ordinary m = false
 asksFor Stop m = eqb (m .first) 0x82
-asksFor OwnTiming m = isExactly m 0x8301
+asksFor OwnTiming m = isExactly m (0x83 ∷ 0x01 ∷ [])
 asksFor NewTiming m = asksCodes m
 asksFor Stopped m = false
 
@@ -224,22 +232,20 @@ requestOf m =
 abbrev pub takesEffect : Request → Message → Bool
 takesEffect Ordinary m = false
 takesEffect Stop m = eqb (m .first) 0xC2
-takesEffect OwnTiming m = isExactly m 0xC301
-takesEffect NewTiming m = isExactly m 0xC303
+takesEffect OwnTiming m = isExactly m (0xC3 ∷ 0x01 ∷ [])
+takesEffect NewTiming m = isExactly m (0xC3 ∷ 0x03 ∷ [])
 takesEffect Stopped m = false
 
 unfoldable pub isEffective : Request → Message → Bool
 isEffective request m = takesEffect request m
 
--- the five codes of a request, among its first seven data bytes
+-- the one at an index of seven bytes that are one number
+abbrev pub byteAt : ℕ → ℕ → ℕ
+byteAt i seven = seven / 256 ^ (6 - i) % 256
+
+-- the five codes of a request: of its seven data bytes all but the first two
 unfoldable pub codesIn : ℕ → Codes
-codesIn seven = record {
-  p2min = seven / 4_294_967_296 % 256;
-  p2max = seven / 16_777_216 % 256;
-  p3min = seven / 65_536 % 256;
-  p3max = seven / 256 % 256;
-  p4min = seven % 256;
-}
+codesIn seven = record { p2min = byteAt 2 seven; p2max = byteAt 3 seven; p3min = byteAt 4 seven; p3max = byteAt 5 seven; p4min = byteAt 6 seven }
 
 -- "those codes from this frame's end, if allowed, else no change"
 unfoldable pub ifAllowed : Decoded → Windows → Windows

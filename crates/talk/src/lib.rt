@@ -1,5 +1,6 @@
 // Messages of a connected link, byte by byte, and what a frame does.
 ghost use mathlib.Core.Path.{_≡_};
+ghost use mathlib.Core.List.{[], _∷_};
 ghost use Rattle.talk.specs.Talk.{isNever, isFirst, testerTurn, isStray, isHasty, unitTurn, turnReason};
 ghost use Rattle.talk.specs.Talk.{isModeOne, hasExtra, placeAnnounced, headReason, firstReason};
 ghost use Rattle.talk.specs.Talk.{afterAddresses, partAfterFormat, begun, partReason, laterReason, isSum, isInside};
@@ -13,6 +14,17 @@ use timing::Codes;
 use timing::Decoded;
 use timing::Windows;
 use units::Micros;
+
+// Where a number that is bytes side by side is cut: 256 to the second, and so on to the sixth.
+const TWO_BYTES: u64 = 256 * 256;
+
+const THREE_BYTES: u64 = TWO_BYTES * 256;
+
+const FOUR_BYTES: u64 = THREE_BYTES * 256;
+
+const FIVE_BYTES: u64 = FOUR_BYTES * 256;
+
+const SIX_BYTES: u64 = FIVE_BYTES * 256;
 
 // The reply that may come: none, a first one, a further one.
 pub enum Reply {
@@ -276,7 +288,7 @@ fn with_seven(seven: u64, at: u8, v: u8) -> u64
     ensures { λ r. ⌜ r ≡ withSeven seven at v ⌝ }
 {
     if at < 7 {
-        return seven % 281_474_976_710_656 * 256 + v as u64;
+        return seven % SIX_BYTES * 256 + v as u64;
     }
     seven
 }
@@ -360,18 +372,18 @@ pub fn grow(m: Message, v: u8) -> Message
     }
 }
 
-// Whether a frame's data is exactly two bytes.
-fn is_exactly(m: Message, two: u64) -> bool
-    ensures { λ r. ⌜ r ≡ isExactly m two ⌝ }
+// Whether a frame's data is exactly these two bytes.
+fn is_exactly(m: Message, a: u8, b: u8) -> bool
+    ensures { λ r. ⌜ r ≡ isExactly m (a ∷ b ∷ []) ⌝ }
 {
-    (m.length == 2) & (m.seven == two)
+    (m.length == 2) & (m.seven == a as u64 * 256 + b as u64)
 }
 
 // Whether a frame's data is 83 03 and five codes.
 fn asks_codes(m: Message) -> bool
     ensures { λ r. ⌜ r ≡ asksCodes m ⌝ }
 {
-    (m.length == 7) & (m.seven / 1_099_511_627_776 == 0x8303)
+    (m.length == 7) & (m.seven / FIVE_BYTES == 0x8303)
 }
 
 // What a tester frame asks for.
@@ -381,7 +393,7 @@ pub fn request_of(m: Message) -> Request
     if m.first == 0x82 {
         return Request::Stop;
     }
-    if is_exactly(m, 0x8301) {
+    if is_exactly(m, 0x83, 0x01) {
         return Request::OwnTiming;
     }
     if asks_codes(m) {
@@ -397,8 +409,8 @@ fn is_effective(request: Request, m: Message) -> bool
     match request {
         Request::Ordinary => false,
         Request::Stop => m.first == 0xC2,
-        Request::OwnTiming => is_exactly(m, 0xC301),
-        Request::NewTiming => is_exactly(m, 0xC303),
+        Request::OwnTiming => is_exactly(m, 0xC3, 0x01),
+        Request::NewTiming => is_exactly(m, 0xC3, 0x03),
         Request::Stopped => false,
     }
 }
@@ -408,9 +420,9 @@ fn codes_in(seven: u64) -> Codes
     ensures { λ r. ⌜ r ≡ codesIn seven ⌝ }
 {
     Codes {
-        p2min: (seven / 4_294_967_296 % 256) as u8,
-        p2max: (seven / 16_777_216 % 256) as u8,
-        p3min: (seven / 65_536 % 256) as u8,
+        p2min: (seven / FOUR_BYTES % 256) as u8,
+        p2max: (seven / THREE_BYTES % 256) as u8,
+        p3min: (seven / TWO_BYTES % 256) as u8,
         p3max: (seven / 256 % 256) as u8,
         p4min: (seven % 256) as u8,
     }

@@ -2,19 +2,19 @@
 -- Assumes nothing.
 use Prim.Native.Nat.{ℕ, _+_, _*_, _≤_}
 use mathlib.Core.Path.{_≡_, refl, sym, _∙_}
-use mathlib.Core.Bool.{Bool, true, false}
 use mathlib.Core.List.{List, [], _∷_, _++_, append-assoc}
-use lib.Dec.{eqb}
 use lib.ListN.{length, take, drop, length-append, length-take, length-drop, take-append-drop}
 use lib.Seq.{length-take-le, take-at, drop-append-add, drop-drop}
 use borrow.Author.Tests.{le-leb}
 use native.Mathlib.Omega.{arith}
 use native.Mathlib.Nat.{add-assoc}
-use Rattle.base.specs.Choice.{if_then_else_}
+use Rattle.reports.specs.Reporting.{listed}
+use Rattle.reports.proofs.Places.{listed-few}
 use Rattle.reports.specs.declared.Report.{Report}
 use Rattle.reports.specs.declared.Reports.{Reports}
 use Rattle.reports.specs.declared.Counts.{Counts}
 use Rattle.text.specs.Text.{space, lineFeed, placesOf, numberText, lineText, headText, reportText, reportsText, refusedText, endText, put, Writes, Puts}
+use Rattle.text.specs.Text.{numberMost, headMost, lineMost, reportsMost, refusedMost, endMost}
 use Rattle.text.proofs.Spelling.{length-digits, places-few}
 
 -- a text behind another
@@ -73,40 +73,37 @@ writes-puts p most at out r after h k w =
     let m : after ≡ put at p out = rw e at (w .memory) in
     record { place = rw e at (w .place); small = k; memory = m; kept = rw m (length-put at p out (omega arith)) }
 
--- how long the texts are: a number has at most 21 bytes, with the byte behind it
-pub number-small : (n b : ℕ) → length (numberText n b) ≤ 21
+-- how long the texts are
+pub number-small : (n b : ℕ) → length (numberText n b) ≤ numberMost
 unfolding numberText
 number-small n b = rw (length-append, length-digits (placesOf 19 n) n) (omega (arith, places-few 19 n))
 
-pub line-small : (ns : List ℕ) → length (lineText ns) ≤ 21 * length ns
+pub line-small : (ns : List ℕ) → length (lineText ns) ≤ length ns * numberMost
 unfolding lineText
 line-small [] = omega arith
 line-small (n ∷ []) = omega (arith, number-small n lineFeed)
 line-small (n ∷ m ∷ ns) = rw (length-append) (omega (arith, number-small n space, line-small (m ∷ ns)))
 
-pub head-small : length headText ≤ 31
+pub head-small : length headText ≤ headMost
 unfolding headText
 head-small = omega arith
 
-pub report-small : (x : Report) → length (reportText x) ≤ 105
+pub report-small : (x : Report) → length (reportText x) ≤ lineMost
 unfolding reportText
 report-small x = line-small (x .number ∷ x .reason ∷ x .first ∷ x .bytes ∷ x .time .0 ∷ [])
 
-some-small : (b0 b1 b2 : Bool) (p q r : List ℕ) → length p ≤ 105 → length q ≤ 105 → length r ≤ 105
-    → length (if b0 then [] else if b1 then p else if b2 then p ++ q else p ++ (q ++ r)) ≤ 315
-some-small true b1 b2 p q r h k l = omega arith
-some-small false true b2 p q r h k l = omega arith
-some-small false false true p q r h k l = rw (length-append p q) (omega arith)
-some-small false false false p q r h k l = rw (length-append p (q ++ r), length-append q r) (omega arith)
-
-pub reports-small : (rs : Reports) → length (reportsText rs) ≤ 315
+lines-small : (xs : List Report) → length (reportsText xs) ≤ length xs * lineMost
 unfolding reportsText
-reports-small rs = some-small (eqb (rs .n) 0) (eqb (rs .n) 1) (eqb (rs .n) 2) _ _ _ (report-small (rs .a)) (report-small (rs .b)) (report-small (rs .c))
+lines-small [] = omega arith
+lines-small (x ∷ xs) = rw (length-append (reportText x) (reportsText xs)) (omega (arith, report-small x, lines-small xs))
 
-pub refused-small : (n : ℕ) → length (refusedText n) ≤ 29
+pub reports-small : (rs : Reports) → length (reportsText (listed rs)) ≤ reportsMost
+reports-small rs = omega (arith, lines-small (listed rs), listed-few rs)
+
+pub refused-small : (n : ℕ) → length (refusedText n) ≤ refusedMost
 unfolding refusedText
 refused-small n = omega (arith, line-small (n ∷ []))
 
-pub end-small : (c : Counts) (held : ℕ) → length (endText c held) ≤ 172
+pub end-small : (c : Counts) (held : ℕ) → length (endText c held) ≤ endMost
 unfolding endText
 end-small c held = omega (arith, line-small (c .heard ∷ c .framed ∷ c .damaged ∷ c .started ∷ c .outside ∷ c .frames ∷ c .damages ∷ held ∷ []))

@@ -4,23 +4,24 @@ use Prim.Native.Nat.{ℕ, _+_}
 use lib.ListN.{length}
 use Rattle.base.specs.Choice.{if_then_else_}
 use Rattle.base.proofs.One.{Only, only-both}
+use Rattle.reports.specs.Reporting.{listed}
 use Rattle.reports.specs.declared.Counts.{Counts}
 use Rattle.reports.specs.declared.Reports.{Reports}
-use Rattle.text.specs.Text.{headText, reportsText, refusedText, endText, put, fits, Writes}
+use Rattle.text.specs.Text.{headText, reportsText, refusedText, endText, headMost, reportsMost, refusedMost, endMost, put, fits, Writes}
 
 -- the promise fixes both, whatever the text
 writes : (p : List ℕ) (most at : ℕ) (out : List ℕ) → Only (λ (x : ℕ × List ℕ). Writes p most at out (x .0) (x .1))
 writes p most at out =
     only-both (if fits at most out then at + length p else at) (if fits at most out then put at p out else out) (λ x w. (w .place, w .memory))
 
-pub put-head : (at : ℕ) (out : List ℕ) → Only (λ (x : ℕ × List ℕ). Writes headText 31 at out (x .0) (x .1))
-put-head at out = writes headText 31 at out
+pub put-head : (at : ℕ) (out : List ℕ) → Only (λ (x : ℕ × List ℕ). Writes headText headMost at out (x .0) (x .1))
+put-head at out = writes headText headMost at out
 
-pub put-reports : (at : ℕ) (rs : Reports) (out : List ℕ) → Only (λ (x : ℕ × List ℕ). Writes (reportsText rs) 315 at out (x .0) (x .1))
-put-reports at rs out = writes (reportsText rs) 315 at out
+pub put-reports : (at : ℕ) (rs : Reports) (out : List ℕ) → Only (λ (x : ℕ × List ℕ). Writes (reportsText (listed rs)) reportsMost at out (x .0) (x .1))
+put-reports at rs out = writes (reportsText (listed rs)) reportsMost at out
 
-pub put-refusal : (at n : ℕ) (out : List ℕ) → Only (λ (x : ℕ × List ℕ). Writes (refusedText n) 29 at out (x .0) (x .1))
-put-refusal at n out = writes (refusedText n) 29 at out
+pub put-refusal : (at n : ℕ) (out : List ℕ) → Only (λ (x : ℕ × List ℕ). Writes (refusedText n) refusedMost at out (x .0) (x .1))
+put-refusal at n out = writes (refusedText n) refusedMost at out
 
-pub put-end : (at : ℕ) (c : Counts) (held : ℕ) (out : List ℕ) → Only (λ (x : ℕ × List ℕ). Writes (endText c held) 172 at out (x .0) (x .1))
-put-end at c held out = writes (endText c held) 172 at out
+pub put-end : (at : ℕ) (c : Counts) (held : ℕ) (out : List ℕ) → Only (λ (x : ℕ × List ℕ). Writes (endText c held) endMost at out (x .0) (x .1))
+put-end at c held out = writes (endText c held) endMost at out

@@ -1,5 +1,5 @@
 -- Laws for the proofs of the functions: a line by its parts, and the room. Assumes nothing.
-use Prim.Native.Nat.{ℕ, suc, _+_, _-_, _≤_, _<_}
+use Prim.Native.Nat.{ℕ, suc, _+_, _-_, _*_, _≤_, _<_}
 use mathlib.Core.Path.{_≡_, refl, sym, _∙_, ap}
 use mathlib.Core.Bool.{Bool, true, false, not}
 use mathlib.Core.List.{List, [], _∷_, _++_, append-assoc, append-nil}
@@ -7,22 +7,26 @@ use lib.Dec.{leb}
 use lib.ListN.{length, take, drop, set, length-append, length-take, length-drop, length-set, drop-of-length-le}
 use lib.Seq.{drop-drop, set-split, take-all}
 use borrow.Rule.Slice.PartMut.{putMid}
-use borrow.Author.Tests.{le-leb, lt-leb, leb-true, leb-false, not-true, not-false, ne-eqb}
+use borrow.Author.Tests.{le-leb, lt-leb, leb-true, leb-false, not-true, not-false}
 use native.Mathlib.Omega.{arith}
 use Rattle.base.specs.Choice.{if_then_else_}
+use Rattle.reports.specs.Reporting.{places, listed}
+use Rattle.reports.specs.declared.Report.{Report}
 use Rattle.reports.specs.declared.Reports.{Reports}
 use Rattle.reports.specs.declared.Counts.{Counts}
+use Rattle.reports.proofs.Places.{listed-none}
 use Rattle.text.specs.Text.{space, placesOf, digitsOf, numberText, spacedText, lineText, reportText, reportsText, endText, put, fits, Writes, Puts}
+use Rattle.text.specs.Text.{numberMost, lineMost, reportsMost, endMost}
 use Rattle.text.proofs.Spelling.{length-digits}
-use Rattle.text.proofs.Laws.{put-put, length-put, put-nil, puts-join}
+use Rattle.text.proofs.Laws.{put-put, length-put, put-nil, puts-nil, puts-join, reports-small}
 
 -- a number: its digits, and the byte behind them
 pub put-one : (out : List ℕ) (i b : ℕ) → i < length out → set out i b ≡ put i (b ∷ []) out
 unfolding put
 put-one out i b h = let e : suc i ≡ i + 1 = omega arith in rw (set-split out i b h, e)
 
-pub number-puts : (at k n b : ℕ) (out o1 : List ℕ) → at + 21 ≤ length out → k ≡ placesOf 19 n → k ≤ 20 → o1 ≡ put at (digitsOf k n) out
-    → Puts at (numberText n b) 21 out (at + k + 1) (set o1 (at + k) b)
+pub number-puts : (at k n b : ℕ) (out o1 : List ℕ) → at + numberMost ≤ length out → k ≡ placesOf 19 n → k ≤ 20 → o1 ≡ put at (digitsOf k n) out
+    → Puts at (numberText n b) numberMost out (at + k + 1) (set o1 (at + k) b)
 unfolding numberText
 number-puts at k n b out o1 h ek small e =
     let l = length-digits k n in
@@ -60,19 +64,19 @@ copied at n s out last en h e =
       kept = rw m (simp (length-append, length-take, length-drop) (omega arith));
     }
 
--- three texts and five, one behind the other; and nothing behind the last
-pub puts-three : (at : ℕ) (p q s : List ℕ) (out : List ℕ) (a1 : ℕ) (o1 : List ℕ) (a2 : ℕ) (o2 : List ℕ) (r : ℕ) (o3 : List ℕ) → at + 63 ≤ length out
-    → Puts at p 21 out a1 o1 → Puts a1 q 21 o1 a2 o2 → Puts a2 s 21 o2 r o3 → Puts at (p ++ (q ++ s)) 63 out r o3
+-- three numbers and five, one behind the other; and nothing behind the last
+pub puts-three : (at : ℕ) (p q s : List ℕ) (out : List ℕ) (a1 : ℕ) (o1 : List ℕ) (a2 : ℕ) (o2 : List ℕ) (r : ℕ) (o3 : List ℕ) → at + 3 * numberMost ≤ length out
+    → Puts at p numberMost out a1 o1 → Puts a1 q numberMost o1 a2 o2 → Puts a2 s numberMost o2 r o3 → Puts at (p ++ (q ++ s)) (3 * numberMost) out r o3
 puts-three at p q s out a1 o1 a2 o2 r o3 h u v w =
-    puts-join at p (q ++ s) 21 42 out a1 o1 r o3 (omega arith) u
-    (puts-join a1 q s 21 21 o1 a2 o2 r o3 (omega (arith, u .place, u .small, u .kept)) v w)
+    puts-join at p (q ++ s) numberMost (2 * numberMost) out a1 o1 r o3 (omega arith) u
+    (puts-join a1 q s numberMost numberMost o1 a2 o2 r o3 (omega (arith, u .place, u .small, u .kept)) v w)
 
 pub puts-five : (at : ℕ) (p q s t x : List ℕ) (out : List ℕ) (a1 : ℕ) (o1 : List ℕ) (a2 : ℕ) (o2 : List ℕ) (a3 : ℕ) (o3 : List ℕ) (a4 : ℕ) (o4 : List ℕ) (r : ℕ) (o5 : List ℕ)
-    → at + 105 ≤ length out → Puts at p 21 out a1 o1 → Puts a1 q 21 o1 a2 o2 → Puts a2 s 21 o2 a3 o3 → Puts a3 t 21 o3 a4 o4 → Puts a4 x 21 o4 r o5
-    → Puts at (p ++ (q ++ (s ++ (t ++ x)))) 105 out r o5
+    → at + 5 * numberMost ≤ length out → Puts at p numberMost out a1 o1 → Puts a1 q numberMost o1 a2 o2 → Puts a2 s numberMost o2 a3 o3
+    → Puts a3 t numberMost o3 a4 o4 → Puts a4 x numberMost o4 r o5 → Puts at (p ++ (q ++ (s ++ (t ++ x)))) (5 * numberMost) out r o5
 puts-five at p q s t x out a1 o1 a2 o2 a3 o3 a4 o4 r o5 h u v w y z =
-    puts-join at p (q ++ (s ++ (t ++ x))) 21 84 out a1 o1 r o5 (omega arith) u
-    (puts-join a1 q (s ++ (t ++ x)) 21 63 o1 a2 o2 r o5 (omega (arith, u .place, u .small, u .kept)) v
+    puts-join at p (q ++ (s ++ (t ++ x))) numberMost (4 * numberMost) out a1 o1 r o5 (omega arith) u
+    (puts-join a1 q (s ++ (t ++ x)) numberMost (3 * numberMost) o1 a2 o2 r o5 (omega (arith, u .place, u .small, u .kept)) v
     (puts-three a2 s t x o2 a3 o3 a4 o4 r o5 (omega (arith, u .place, u .small, u .kept, v .place, v .small, v .kept)) w y z))
 
 pub puts-last : (at : ℕ) (p : List ℕ) (m : ℕ) (out : List ℕ) (r : ℕ) (after : List ℕ) → Puts at p m out r after → Puts at (p ++ []) m out r after
@@ -86,13 +90,15 @@ spaced-line (x ∷ []) y ys = append-assoc (numberText x space) [] (lineText (y 
 spaced-line (x ∷ z ∷ xs) y ys =
     append-assoc (numberText x space) (spacedText (z ∷ xs)) (lineText (y ∷ ys)) ∙ ap (λ l. numberText x space ++ l) (spaced-line (z ∷ xs) y ys)
 
-pub puts-end : (at : ℕ) (c : Counts) (held : ℕ) (out : List ℕ) (a1 : ℕ) (o1 : List ℕ) (a2 : ℕ) (o2 : List ℕ) (r : ℕ) (o3 : List ℕ) → at + 172 ≤ length out
-    → Puts at (101 ∷ 110 ∷ 100 ∷ space ∷ []) 4 out a1 o1 → Puts a1 (spacedText (c .heard ∷ c .framed ∷ c .damaged ∷ c .started ∷ c .outside ∷ [])) 105 o1 a2 o2
-    → Puts a2 (lineText (c .frames ∷ c .damages ∷ held ∷ [])) 63 o2 r o3 → Puts at (endText c held) 172 out r o3
+pub puts-end : (at : ℕ) (c : Counts) (held : ℕ) (out : List ℕ) (a1 : ℕ) (o1 : List ℕ) (a2 : ℕ) (o2 : List ℕ) (r : ℕ) (o3 : List ℕ) → at + endMost ≤ length out
+    → Puts at (101 ∷ 110 ∷ 100 ∷ space ∷ []) 4 out a1 o1
+    → Puts a1 (spacedText (c .heard ∷ c .framed ∷ c .damaged ∷ c .started ∷ c .outside ∷ [])) (5 * numberMost) o1 a2 o2
+    → Puts a2 (lineText (c .frames ∷ c .damages ∷ held ∷ [])) (3 * numberMost) o2 r o3 → Puts at (endText c held) endMost out r o3
 unfolding endText
 puts-end at c held out a1 o1 a2 o2 r o3 h u v w =
     rw (← (spaced-line (c .heard ∷ c .framed ∷ c .damaged ∷ c .started ∷ c .outside ∷ []) (c .frames) (c .damages ∷ held ∷ [])))
-    (puts-join at _ _ 4 168 out a1 o1 r o3 (omega arith) u (puts-join a1 _ _ 105 63 o1 a2 o2 r o3 (omega (arith, u .place, u .small, u .kept)) v w))
+    (puts-join at _ _ 4 (8 * numberMost) out a1 o1 r o3 (omega arith) u
+    (puts-join a1 _ _ (5 * numberMost) (3 * numberMost) o1 a2 o2 r o3 (omega (arith, u .place, u .small, u .kept)) v w))
 
 -- the test of the room
 room-by : (b : Bool) (len at most : ℕ) → leb (at + most) len ≡ b → at ≤ len → leb most (len - at) ≡ b
@@ -121,29 +127,34 @@ none-writes most at out =
     let z : at + 0 ≡ at = omega arith in
     record { place = rw z (both-same (fits at most out) at); memory = rw (put-nil at out) (both-same (fits at most out) out) }
 
--- the reports of an event, by their number
-pub writes-none : (rs : Reports) (most at : ℕ) (out : List ℕ) → rs .n ≡ 0 → Writes (reportsText rs) most at out at out
+-- ---- the reports of an event
+pub writes-none : (rs : Reports) (most at : ℕ) (out : List ℕ) → rs .n ≡ 0 → Writes (reportsText (listed rs)) most at out at out
 unfolding reportsText
-writes-none rs most at out e = rw e (none-writes most at out)
+writes-none rs most at out e = rw (listed-none rs e) (none-writes most at out)
 
-puts-wider : (at : ℕ) (p : List ℕ) (m n : ℕ) (out : List ℕ) (r : ℕ) (after : List ℕ) → m ≤ n → Puts at p m out r after → Puts at p n out r after
-puts-wider at p m n out r after h u = record { place = u .place; small = omega (arith, u .small); memory = u .memory; kept = u .kept }
+-- the lines so far: of reports xs, one behind the other
+abbrev pub Lines : ℕ → List Report → List ℕ → ℕ → List ℕ → Type 0
+Lines at xs out r after = Puts at (reportsText xs) (length xs * lineMost) out r after
 
-pub puts-one : (at : ℕ) (rs : Reports) (out : List ℕ) (r : ℕ) (o1 : List ℕ) → rs .n ≡ 1 → Puts at (reportText (rs .a)) 105 out r o1
-    → Puts at (reportsText rs) 315 out r o1
+pub no-lines : (at : ℕ) (out : List ℕ) → Lines at [] out at out
 unfolding reportsText
-puts-one at rs out r o1 e u = rw e (puts-wider at _ 105 315 out r o1 (omega arith) u)
+no-lines at out = puts-nil at out
 
-pub puts-two : (at : ℕ) (rs : Reports) (out : List ℕ) (a1 : ℕ) (o1 : List ℕ) (r : ℕ) (o2 : List ℕ) → at + 315 ≤ length out → rs .n ≡ 2
-    → Puts at (reportText (rs .a)) 105 out a1 o1 → Puts a1 (reportText (rs .b)) 105 o1 r o2 → Puts at (reportsText rs) 315 out r o2
+-- one more line behind them
+lines-append : (xs : List Report) (x : Report) → reportsText xs ++ reportText x ≡ reportsText (xs ++ (x ∷ []))
 unfolding reportsText
-puts-two at rs out a1 o1 r o2 h e u v =
-    rw e (puts-wider at _ 210 315 out r o2 (omega arith) (puts-join at _ _ 105 105 out a1 o1 r o2 (omega arith) u v))
+lines-append [] x = sym (append-nil (reportText x))
+lines-append (y ∷ xs) x = append-assoc (reportText y) (reportsText xs) (reportText x) ∙ ap (λ l. reportText y ++ l) (lines-append xs x)
 
-pub puts-all : (at : ℕ) (rs : Reports) (out : List ℕ) (a1 : ℕ) (o1 : List ℕ) (a2 : ℕ) (o2 : List ℕ) (r : ℕ) (o3 : List ℕ) → at + 315 ≤ length out
-    → 1 ≤ rs .n → (rs .n ≡ 1 → ⊥) → (rs .n ≡ 2 → ⊥) → Puts at (reportText (rs .a)) 105 out a1 o1 → Puts a1 (reportText (rs .b)) 105 o1 a2 o2
-    → Puts a2 (reportText (rs .c)) 105 o2 r o3 → Puts at (reportsText rs) 315 out r o3
-unfolding reportsText
-puts-all at rs out a1 o1 a2 o2 r o3 h n0 n1 n2 u v w =
-    rw (ne-eqb (rs .n) 0 (λ e. omega arith), ne-eqb (rs .n) 1 n1, ne-eqb (rs .n) 2 n2)
-    (puts-join at _ _ 105 210 out a1 o1 r o3 (omega arith) u (puts-join a1 _ _ 105 105 o1 a2 o2 r o3 (omega (arith, u .place, u .small, u .kept)) v w))
+pub puts-line : (at : ℕ) (xs : List Report) (x : Report) (out : List ℕ) (a : ℕ) (o1 : List ℕ) (r : ℕ) (o2 : List ℕ) → at + reportsMost ≤ length out
+    → length xs < places → Lines at xs out a o1 → Puts a (reportText x) lineMost o1 r o2 → Lines at (xs ++ (x ∷ [])) out r o2
+puts-line at xs x out a o1 r o2 h k u v =
+    let j = puts-join at (reportsText xs) (reportText x) (length xs * lineMost) lineMost out a o1 r o2 (omega arith) u v in
+    let e : length (xs ++ (x ∷ [])) * lineMost ≡ length xs * lineMost + lineMost = rw (length-append xs (x ∷ [])) (omega arith) in
+    rw (e, ← (lines-append xs x)) j
+
+-- all of them are there
+pub puts-listed : (at : ℕ) (rs : Reports) (xs : List Report) (out : List ℕ) (r : ℕ) (after : List ℕ) → listed rs ≡ xs → Lines at xs out r after
+    → Puts at (reportsText (listed rs)) reportsMost out r after
+puts-listed at rs xs out r after e u =
+    record { place = rw e (u .place); small = reports-small rs; memory = rw e (u .memory); kept = u .kept }

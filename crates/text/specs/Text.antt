@@ -1,13 +1,13 @@
 -- The text of a listing's lines (document 01, "The listing"), each byte a number, and where it is written. Assumes nothing.
-use Prim.Native.Nat.{ℕ, zero, suc, _+_, _/_, _%_, _≤_}
+use Prim.Native.Nat.{ℕ, zero, suc, _+_, _*_, _/_, _%_, _≤_}
 use mathlib.Core.Path.{_≡_}
 use mathlib.Core.Bool.{Bool}
 use mathlib.Core.List.{List, [], _∷_, _++_}
-use lib.Dec.{eqb, leb, ltb}
+use lib.Dec.{leb, ltb}
 use lib.ListN.{length, take, drop}
 use Rattle.base.specs.Choice.{if_then_else_}
+use Rattle.reports.specs.Reporting.{places}
 use Rattle.reports.specs.declared.Report.{Report}
-use Rattle.reports.specs.declared.Reports.{Reports}
 use Rattle.reports.specs.declared.Counts.{Counts}
 
 abbrev pub space : ℕ
@@ -54,13 +54,10 @@ headText =
 unfoldable pub reportText : Report → List ℕ
 reportText x = lineText (x .number ∷ x .reason ∷ x .first ∷ x .bytes ∷ x .time .0 ∷ [])
 
--- the reports of an event, the first n of the three
-unfoldable pub reportsText : Reports → List ℕ
-reportsText rs =
-    if eqb (rs .n) 0 then [] else
-    if eqb (rs .n) 1 then reportText (rs .a) else
-    if eqb (rs .n) 2 then reportText (rs .a) ++ reportText (rs .b) else
-    reportText (rs .a) ++ (reportText (rs .b) ++ reportText (rs .c))
+-- the reports of an event, a line for each
+unfoldable pub reportsText : List Report → List ℕ
+reportsText [] = []
+reportsText (x ∷ xs) = reportText x ++ reportsText xs
 
 -- "`refused N` for a refused line"
 unfoldable pub refusedText : ℕ → List ℕ
@@ -72,6 +69,32 @@ endText c held =
     (101 ∷ 110 ∷ 100 ∷ space ∷ [])
     ++ lineText (c .heard ∷ c .framed ∷ c .damaged ∷ c .started ∷ c .outside ∷ c .frames ∷ c .damages ∷ held ∷ [])
 
+-- ---- the room for these texts, the most bytes that each has
+-- a number: 20 digits, and the byte behind them
+abbrev pub numberMost : ℕ
+numberMost = 21
+
+-- the header: as many as it has
+abbrev pub headMost : ℕ
+headMost = 31
+
+-- a report's line: five numbers
+abbrev pub lineMost : ℕ
+lineMost = 5 * numberMost
+
+-- the lines of an event's reports: one for each place
+abbrev pub reportsMost : ℕ
+reportsMost = places * lineMost
+
+-- a refusal's line: the word with its space, and a number
+abbrev pub refusedMost : ℕ
+refusedMost = 8 + numberMost
+
+-- the end line: the word with its space, and eight numbers
+abbrev pub endMost : ℕ
+endMost = 4 + 8 * numberMost
+
+-- ---- where they are written
 -- out with p written over it from at on
 unfoldable pub put : ℕ → List ℕ → List ℕ → List ℕ
 put at p out = take at out ++ (p ++ drop (at + length p) out)

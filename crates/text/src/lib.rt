@@ -4,10 +4,11 @@
 mod writing;
 
 ghost use mathlib.Core.List.{_∷_, []};
-ghost use Prim.Native.Nat.{_+_, _≤_};
+ghost use Prim.Native.Nat.{_+_, _*_, _≤_};
 ghost use lib.ListN.{length};
+ghost use Rattle.reports.specs.Reporting.{listed};
 ghost use Rattle.text.specs.Text.{spacedText, lineText, headText, reportText, reportsText, refusedText, endText};
-ghost use Rattle.text.specs.Text.{Puts, Writes};
+ghost use Rattle.text.specs.Text.{numberMost, headMost, lineMost, reportsMost, refusedMost, endMost, Puts, Writes};
 use reports::Counts;
 use reports::Report;
 use reports::Reports;
@@ -16,20 +17,38 @@ const SPACE: u8 = 32;
 
 const LINE_FEED: u8 = 10;
 
-// The header: 31 bytes.
+// The room for a text, the most bytes that it has: for a number with the byte behind it, ..
+const NUMBER_MOST: usize = 21;
+
+// .. the header, ..
+pub const HEAD_MOST: usize = 31;
+
+// .. a report's line, of five numbers, ..
+const LINE_MOST: usize = 5 * NUMBER_MOST;
+
+// .. the lines of an event's reports, ..
+pub const REPORTS_MOST: usize = reports::PLACES * LINE_MOST;
+
+// .. a refused line's, a word and a number, ..
+pub const REFUSED_MOST: usize = 8 + NUMBER_MOST;
+
+// .. and the end line, a word and eight numbers.
+pub const END_MOST: usize = 4 + 8 * NUMBER_MOST;
+
+// The header: HEAD_MOST bytes.
 pub fn put_head(out: &mut [u8], at: usize) -> usize
-    ensures { λ r. ⌜ Writes headText 31 at (now (out .entry)) r (now (out .exit)) ⌝ }
+    ensures { λ r. ⌜ Writes headText headMost at (now (out .entry)) r (now (out .exit)) ⌝ }
 {
-    if !writing::has_room(out.len(), at, 31) {
+    if !writing::has_room(out.len(), at, HEAD_MOST) {
         return at;
     }
     writing::put_text(out, at, b"report reason first bytes time\n")
 }
 
-// A report's line, of at most 105 bytes.
+// A report's line, of at most LINE_MOST bytes.
 fn put_report(out: &mut [u8], at: usize, x: Report) -> usize
-    requires { ⌜ at + 105 ≤ length (now out) ⌝ }
-    ensures { λ r. ⌜ Puts at (reportText x) 105 (now (out .entry)) r (now (out .exit)) ⌝ }
+    requires { ⌜ at + lineMost ≤ length (now out) ⌝ }
+    ensures { λ r. ⌜ Puts at (reportText x) lineMost (now (out .entry)) r (now (out .exit)) ⌝ }
 {
     let a = writing::put_number(out, at, x.number as u64, SPACE);
     let b = writing::put_number(out, a, x.reason as u64, SPACE);
@@ -40,8 +59,8 @@ fn put_report(out: &mut [u8], at: usize, x: Report) -> usize
 
 // One report or more, where there is room.
 fn write_reports(out: &mut [u8], at: usize, rs: Reports) -> usize
-    requires { ⌜ (at + 315 ≤ length (now out)) × (1 ≤ rs .n) ⌝ }
-    ensures { λ r. ⌜ Puts at (reportsText rs) 315 (now (out .entry)) r (now (out .exit)) ⌝ }
+    requires { ⌜ (at + reportsMost ≤ length (now out)) × (1 ≤ rs .n) ⌝ }
+    ensures { λ r. ⌜ Puts at (reportsText (listed rs)) reportsMost (now (out .entry)) r (now (out .exit)) ⌝ }
 {
     let a = put_report(out, at, rs.a);
     if rs.n == 1 {
@@ -54,14 +73,14 @@ fn write_reports(out: &mut [u8], at: usize, rs: Reports) -> usize
     put_report(out, b, rs.c)
 }
 
-// The reports of an event, a line for each: at most 315 bytes.
+// The reports of an event, a line for each: at most REPORTS_MOST bytes.
 pub fn put_reports(out: &mut [u8], at: usize, rs: Reports) -> usize
-    ensures { λ r. ⌜ Writes (reportsText rs) 315 at (now (out .entry)) r (now (out .exit)) ⌝ }
+    ensures { λ r. ⌜ Writes (reportsText (listed rs)) reportsMost at (now (out .entry)) r (now (out .exit)) ⌝ }
 {
     if rs.n == 0 {
         return at;
     }
-    if !writing::has_room(out.len(), at, 315) {
+    if !writing::has_room(out.len(), at, REPORTS_MOST) {
         return at;
     }
     write_reports(out, at, rs)
@@ -69,18 +88,18 @@ pub fn put_reports(out: &mut [u8], at: usize, rs: Reports) -> usize
 
 // The line of a refused line, where there is room.
 fn write_refusal(out: &mut [u8], at: usize, no: u8) -> usize
-    requires { ⌜ at + 29 ≤ length (now out) ⌝ }
-    ensures { λ r. ⌜ Puts at (refusedText no) 29 (now (out .entry)) r (now (out .exit)) ⌝ }
+    requires { ⌜ at + refusedMost ≤ length (now out) ⌝ }
+    ensures { λ r. ⌜ Puts at (refusedText no) refusedMost (now (out .entry)) r (now (out .exit)) ⌝ }
 {
     let a = writing::put_text(out, at, b"refused ");
     writing::put_number(out, a, no as u64, LINE_FEED)
 }
 
-// The line of a refused line: at most 29 bytes.
+// The line of a refused line: at most REFUSED_MOST bytes.
 pub fn put_refusal(out: &mut [u8], at: usize, no: u8) -> usize
-    ensures { λ r. ⌜ Writes (refusedText no) 29 at (now (out .entry)) r (now (out .exit)) ⌝ }
+    ensures { λ r. ⌜ Writes (refusedText no) refusedMost at (now (out .entry)) r (now (out .exit)) ⌝ }
 {
-    if !writing::has_room(out.len(), at, 29) {
+    if !writing::has_room(out.len(), at, REFUSED_MOST) {
         return at;
     }
     write_refusal(out, at, no)
@@ -88,8 +107,8 @@ pub fn put_refusal(out: &mut [u8], at: usize, no: u8) -> usize
 
 // The counts of bytes, a space behind each.
 fn put_byte_counts(out: &mut [u8], at: usize, c: Counts) -> usize
-    requires { ⌜ at + 105 ≤ length (now out) ⌝ }
-    ensures { λ r. ⌜ Puts at (spacedText (c .heard ∷ c .framed ∷ c .damaged ∷ c .started ∷ c .outside ∷ [])) 105 (now (out .entry)) r (now (out .exit)) ⌝ }
+    requires { ⌜ at + 5 * numberMost ≤ length (now out) ⌝ }
+    ensures { λ r. ⌜ Puts at (spacedText (c .heard ∷ c .framed ∷ c .damaged ∷ c .started ∷ c .outside ∷ [])) (5 * numberMost) (now (out .entry)) r (now (out .exit)) ⌝ }
 {
     let a = writing::put_number(out, at, c.heard, SPACE);
     let b = writing::put_number(out, a, c.framed, SPACE);
@@ -100,8 +119,8 @@ fn put_byte_counts(out: &mut [u8], at: usize, c: Counts) -> usize
 
 // The rest of the end line: the counts of reports, and the bytes held.
 fn put_report_counts(out: &mut [u8], at: usize, c: Counts, held: u64) -> usize
-    requires { ⌜ at + 63 ≤ length (now out) ⌝ }
-    ensures { λ r. ⌜ Puts at (lineText (c .frames ∷ c .damages ∷ held ∷ [])) 63 (now (out .entry)) r (now (out .exit)) ⌝ }
+    requires { ⌜ at + 3 * numberMost ≤ length (now out) ⌝ }
+    ensures { λ r. ⌜ Puts at (lineText (c .frames ∷ c .damages ∷ held ∷ [])) (3 * numberMost) (now (out .entry)) r (now (out .exit)) ⌝ }
 {
     let a = writing::put_number(out, at, c.frames, SPACE);
     let b = writing::put_number(out, a, c.damages, SPACE);
@@ -110,19 +129,19 @@ fn put_report_counts(out: &mut [u8], at: usize, c: Counts, held: u64) -> usize
 
 // The end line, where there is room.
 fn write_end(out: &mut [u8], at: usize, c: Counts, held: u64) -> usize
-    requires { ⌜ at + 172 ≤ length (now out) ⌝ }
-    ensures { λ r. ⌜ Puts at (endText c held) 172 (now (out .entry)) r (now (out .exit)) ⌝ }
+    requires { ⌜ at + endMost ≤ length (now out) ⌝ }
+    ensures { λ r. ⌜ Puts at (endText c held) endMost (now (out .entry)) r (now (out .exit)) ⌝ }
 {
     let a = writing::put_text(out, at, b"end ");
     let b = put_byte_counts(out, a, c);
     put_report_counts(out, b, c, held)
 }
 
-// The end line, of the seven counts and the bytes held: at most 172 bytes.
+// The end line, of the seven counts and the bytes held: at most END_MOST bytes.
 pub fn put_end(out: &mut [u8], at: usize, c: Counts, held: u64) -> usize
-    ensures { λ r. ⌜ Writes (endText c held) 172 at (now (out .entry)) r (now (out .exit)) ⌝ }
+    ensures { λ r. ⌜ Writes (endText c held) endMost at (now (out .entry)) r (now (out .exit)) ⌝ }
 {
-    if !writing::has_room(out.len(), at, 172) {
+    if !writing::has_room(out.len(), at, END_MOST) {
         return at;
     }
     write_end(out, at, c, held)

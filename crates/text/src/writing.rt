@@ -4,7 +4,7 @@ ghost use mathlib.Core.Path.{_≡_};
 ghost use Prim.Native.Nat.{_+_, _≤_};
 ghost use lib.Dec.{leb};
 ghost use lib.ListN.{length};
-ghost use Rattle.text.specs.Text.{placesOf, digitsOf, numberText, put, Puts};
+ghost use Rattle.text.specs.Text.{placesOf, digitsOf, numberText, numberMost, put, Puts};
 
 // Does a buffer of so many bytes have `most` bytes or more from `at` on?
 pub(crate) fn has_room(len: usize, at: usize, most: usize) -> bool
@@ -45,8 +45,8 @@ fn spell(out: &mut [u8], at: usize, n: u64, k: usize)
 
 // Writes a number with no zeros in front, and one byte behind it.
 pub(crate) fn put_number(out: &mut [u8], at: usize, n: u64, behind: u8) -> usize
-    requires { ⌜ at + 21 ≤ length (now out) ⌝ }
-    ensures { λ r. ⌜ Puts at (numberText n behind) 21 (now (out .entry)) r (now (out .exit)) ⌝ }
+    requires { ⌜ at + numberMost ≤ length (now out) ⌝ }
+    ensures { λ r. ⌜ Puts at (numberText n behind) numberMost (now (out .entry)) r (now (out .exit)) ⌝ }
 {
     let k = places(n);
     spell(out, at, n, k);

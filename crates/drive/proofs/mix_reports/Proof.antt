@@ -1,7 +1,7 @@
--- `drive::mix_reports` meets its contract: at each return, the tests and matches on the way there pick the case of the definition.
+-- `drive::mix_reports` meets its contract: at each return, as many reports are mixed in as there are.
 -- Assumes nothing.
 use borrow.Author.Needs.{needs}
-use borrow.Author.Tests.{eq-eqb, ne-eqb}
+use Rattle.reports.proofs.Places.{listed-none, listed-one, listed-two, listed-all}
 use Rattle.drive.specs.Drive.{mixedReports}
 use Rattle.drive.proofs.mix_reports.Statement.{statement}
 use Rattle.drive.proofs.mix_reports.Tie as tie
@@ -11,13 +11,13 @@ unfolding mixedReports
 mix-reports-spec =
     tie.close
     (tie.spec
-    (λ c. rw (eq-eqb _ _ (c .if1 .taken)))
+    (λ c. rw (listed-none (c .before .before .before .before .before .args .rs) (c .if1 .taken)))
     (λ c κs. search needs)
-    (λ c. rw (c .mix-report .ensures, ne-eqb _ _ (c .before .before .before .if1 .left), eq-eqb _ _ (c .before .if2 .taken)))
-    (λ c κs. search needs)
-    (λ c κs. search needs)
-    (λ c. rw (c .mix-report3 .ensures, ne-eqb _ _ (c .before .before .before .before .before .before .if1 .left), ne-eqb _ _ (c .before .before .before .before .if2 .left), eq-eqb _ _ (c .before .before .if3 .taken), ← (c .before .mix-report2 .ensures)))
+    (λ c. rw (listed-one (c .before .before .before .before .before .before .before .before .args .rs) (c .before .if2 .taken), c .mix-report .ensures))
     (λ c κs. search needs)
     (λ c κs. search needs)
+    (λ c. rw (listed-two (c .before .before .before .before .before .before .before .before .before .before .before .args .rs) (c .before .before .if3 .taken), c .mix-report3 .ensures, c .before .mix-report2 .ensures))
     (λ c κs. search needs)
-    (λ c. rw (c .mix-report6 .ensures, ne-eqb _ _ (c .before .before .before .before .before .before .before .if1 .left), ne-eqb _ _ (c .before .before .before .before .before .if2 .left), ne-eqb _ _ (c .before .before .before .if3 .left), ← (c .before .before .mix-report4 .ensures), ← (c .before .mix-report5 .ensures))))
+    (λ c κs. search needs)
+    (λ c κs. search needs)
+    (λ c. rw (listed-all (c .before .before .before .before .before .before .before .before .before .before .before .before .args .rs) (c .before .before .before .before .before .before .before .if1 .left) (c .before .before .before .before .before .if2 .left) (c .before .before .before .if3 .left), c .mix-report6 .ensures, c .before .mix-report5 .ensures, c .before .before .mix-report4 .ensures)))

@@ -4,6 +4,7 @@ use mathlib.Core.Path.{refl}
 use lib.ListN.{length}
 use native.Mathlib.Omega.{arith}
 use borrow.Author.Needs.{needs}
+use Rattle.listing.specs.Parts.{answerMost}
 use Rattle.listing.proofs.Laws.{Going, going-start, going-on, going-end, part-none, tests}
 use Rattle.listing.proofs.list_part.Statement.{statement}
 use Rattle.listing.proofs.list_part.Tie as tie
@@ -26,19 +27,19 @@ loop-holds c = going-start _ _ _ _
 turn-requires : tie.Need-turn-requires Inv-loop μ-loop
 turn-requires c κs = let l = c .before .before .loop in
     let a = c .before .before .before .before .before .before .args in
-    let t = tests (l .at) (length (a .s .now)) (l .put) (length (a .out .now) - 315) (c .before .loop-test .taken) in
+    let t = tests (l .at) (length (a .s .now)) (l .put) (length (a .out .now) - answerMost) (c .before .loop-test .taken) in
     omega (arith, t .1, l .inv .wrote .kept, c .before .before .before .if1 .left)
 
 loop-less : tie.Need-loop-less Inv-loop μ-loop
 loop-less c = let l = c .before .before .before .before .before .before .loop in
     let a = c .before .before .before .before .before .before .before .before .before .before .args in
-    let t = tests (l .at) (length (a .s .now)) (l .put) (length (a .out .now) - 315) (c .before .before .before .before .before .loop-test .taken) in
+    let t = tests (l .at) (length (a .s .now)) (l .put) (length (a .out .now) - answerMost) (c .before .before .before .before .before .loop-test .taken) in
     omega (arith, t .0, c .before .before .before .turn .ensures .ahead (t .0))
 
 loop-again : tie.Need-loop-again Inv-loop μ-loop
 loop-again c = let l = c .before .before .before .before .before .before .loop in
     let a = c .before .before .before .before .before .before .before .before .before .before .args in
-    let t = tests (l .at) (length (a .s .now)) (l .put) (length (a .out .now) - 315) (c .before .before .before .before .before .loop-test .taken) in
+    let t = tests (l .at) (length (a .s .now)) (l .put) (length (a .out .now) - answerMost) (c .before .before .before .before .before .loop-test .taken) in
     going-on _ _ _ _ _ _ _ _ _ _ (omega (arith, c .before .before .before .before .before .before .before .if1 .left)) (t .1) (l .inv) (c .before .before .before .turn .ensures)
 
 same-length : tie.Need-same-length Inv-loop μ-loop

@@ -1,6 +1,6 @@
 -- `talk::codes_in` meets its contract: at each return, the tests and matches on the way there pick the case of the definition.
 -- Assumes nothing.
-use mathlib.Core.Path.{refl}
+use native.Mathlib.Nat.{div-one}
 use borrow.Author.Needs.{needs}
 use Rattle.talk.specs.Talk.{codesIn}
 use Rattle.talk.proofs.codes_in.Statement.{statement}
@@ -16,4 +16,4 @@ codes-in-spec =
     (λ c. search needs)
     (λ c. search needs)
     (λ c. search needs)
-    (λ c. refl))
+    (λ c. rw (div-one _)))

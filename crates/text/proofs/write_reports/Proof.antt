@@ -1,6 +1,9 @@
 -- `text::write_reports` meets its contract: as many lines as there are reports, one behind the other. Assumes nothing.
+use mathlib.Core.List.{[], _∷_}
+use native.Mathlib.Omega.{arith}
 use borrow.Author.Needs.{needs}
-use Rattle.text.proofs.Parts.{puts-one, puts-two, puts-all}
+use Rattle.reports.proofs.Places.{listed-one, listed-two, listed-all}
+use Rattle.text.proofs.Parts.{no-lines, puts-line, puts-listed}
 use Rattle.text.proofs.write_reports.Statement.{statement}
 use Rattle.text.proofs.write_reports.Tie as tie
 
@@ -11,7 +14,9 @@ same-length : tie.Need-same-length
 same-length c = search needs
 
 returns : tie.Need-returns
-returns c = puts-one _ _ _ _ _ (c .if1 .taken) (c .before .before .before .before .put-report .ensures)
+returns c =
+    let a = c .before .before .before .before in
+    puts-listed _ _ _ _ _ _ (listed-one _ (c .if1 .taken)) (puts-line _ [] _ _ _ _ _ _ (search needs) (omega arith) (no-lines _ _) (a .put-report .ensures))
 
 put-report-requires-2 : tie.Need-put-report-requires-2
 put-report-requires-2 c κs = search needs
@@ -23,7 +28,8 @@ returns-2 : tie.Need-returns-2
 returns-2 c =
     let b = c .before .before .before .before in
     let a = b .before .before .before .before .before .before in
-    puts-two _ _ _ _ _ _ _ (search needs) (c .if2 .taken) (a .put-report .ensures) (b .put-report2 .ensures)
+    let one = puts-line _ [] _ _ _ _ _ _ (search needs) (omega arith) (no-lines _ _) (a .put-report .ensures) in
+    puts-listed _ _ _ _ _ _ (listed-two _ (c .if2 .taken)) (puts-line _ (_ ∷ []) _ _ _ _ _ _ (search needs) (omega arith) one (b .put-report2 .ensures))
 
 put-report-requires-3 : tie.Need-put-report-requires-3
 put-report-requires-3 c κs = search needs
@@ -38,7 +44,10 @@ returns-3 c =
     let b = two .before .before .before .before in
     let one = b .before .before in
     let a = one .before .before .before .before in
-    puts-all _ _ _ _ _ _ _ _ _ (search needs) (search needs) (one .if1 .left) (two .if2 .left) (a .put-report .ensures) (b .put-report2 .ensures) (d .put-report3 .ensures)
+    let w1 = puts-line _ [] _ _ _ _ _ _ (search needs) (omega arith) (no-lines _ _) (a .put-report .ensures) in
+    let w2 = puts-line _ (_ ∷ []) _ _ _ _ _ _ (search needs) (omega arith) w1 (b .put-report2 .ensures) in
+    puts-listed _ _ _ _ _ _ (listed-all _ (search needs) (one .if1 .left) (two .if2 .left))
+    (puts-line _ (_ ∷ _ ∷ []) _ _ _ _ _ _ (search needs) (omega arith) w2 (d .put-report3 .ensures))
 
 pub write-reports-spec : {M : Type 1} → statement M
 write-reports-spec =

@@ -1,0 +1,202 @@
+-- THE RULES as one data type. At each moment of an event's handling (`Moment`, in document 01's order) the link makes one move, and `Rule` says which moves it
+-- can be: none, or that of a rule, with the condition on which the rule makes it. Each definition of Moves.antt is proved here to make one of them, so that
+-- what is to be shown of every move of a link is shown by the cases of `Rule`; no other proof need take the definitions apart for it.
+-- Assumes nothing.
+use Prim.Native.Nat.{ℕ}
+use mathlib.Core.Bool.{true, false, not, _&&_}
+use mathlib.Core.Logic.{_⊎_, inl, inr}
+use mathlib.Core.Path.{_≡_, refl}
+use borrow.Author.Tests.{not-true, not-false}
+use lib.Dec.{eqb}
+use Rattle.base.specs.Reports.{frameReport, damageReport, connectedReport, failedReport, outsideReport, noReplyReport, downReport, notIdleReport}
+use Rattle.base.specs.Reports.{noReason, closed, windowOver, wrongLow, stopped, idleOver, dropped, restarted}
+use Rattle.base.proofs.Tests.{and-split, by-test}
+use Rattle.units.specs.Units.{micros, gapOf}
+use Rattle.units.specs.declared.Micros.{Micros}
+use Rattle.timing.specs.Timing.{isPassed}
+use Rattle.events.specs.declared.Kind.the-variants.{Address, WakeUp, Drop}
+use Rattle.events.specs.declared.Event.{Event}
+use Rattle.starts.specs.Starts.{judged, isOver, isLast, onward, slowStart, fastStart}
+use Rattle.talk.specs.Talk.{isFirst, begun, laterReason, isSum, grown, isStopped}
+use Rattle.phases.specs.Phases.{isStarting, isQuiet, isOpen, down, off, starting, connected, holding, damaged, settled, framed}
+use Rattle.phases.specs.declared.State.{State}
+use Rattle.phases.specs.declared.State.the-variants.{Down, Starting, Quiet, Held, Damage}
+use Rattle.phases.specs.declared.Phase.{Phase}
+use Rattle.phases.proofs.StateTests.{is-starting, is-quiet}
+use Rattle.moves.specs.Moves.{still, makes, lossReason, ended, isSilent, afterSilence, afterP2, afterP3, sinceOrigin, afterWindow, closing, leaving}
+use Rattle.moves.specs.Moves.{isIdle, startingSlow, isGoodLow, startingFast, startByte, reasonAtFirst, firstByte, laterByte, byteIn, afterByte, afterStop}
+use Rattle.moves.specs.declared.Move.{Move}
+
+-- the moments of an event's handling, each the one before a rule is asked: time passes (four), what is open is closed, a connected link is left, a start is judged;
+-- or a byte is heard, and then a stop is looked for; and the end
+pub data Moment : Type 0 where
+  at-silence : Moment
+  at-p2 : Moment
+  at-p3 : Moment
+  at-window : Moment
+  at-closing : Moment
+  at-leaving : Moment
+  at-start : Moment
+  at-byte : Moment
+  at-stop : Moment
+  at-end : Moment
+
+unfoldable pub next : Moment → Moment
+next at-silence = at-p2
+next at-p2 = at-p3
+next at-p3 = at-window
+next at-window = at-closing
+next at-closing = at-leaving
+next at-leaving = at-start
+next at-start = at-end
+next at-byte = at-stop
+next at-stop = at-end
+next at-end = at-end
+
+-- an event that closes what is open, and the reason that a connected link is then left for
+pub data Closes (e : Event) : ℕ → Type 0 where
+  by-drop : e .kind ≡ Drop → Closes e dropped
+  by-address : e .kind ≡ Address → Closes e restarted
+  by-wake-up : e .kind ≡ WakeUp → Closes e restarted
+
+module _ (mark : Micros) (e : Event) (p : Phase) where
+  abbrev gap : Micros
+  gap = gapOf mark (e .start)
+
+  -- how long after its origin an initialization's byte comes, and what it is judged to be
+  abbrev since : Micros
+  since = sinceOrigin p mark (e .start)
+
+  abbrev verdict : ℕ
+  verdict = judged (p .start) (e .side) (e .value) since
+
+  -- no rule applies
+  abbrev pub Unmoved : Moment → Type 0
+  Unmoved at-silence = (isOpen (p .state) && isSilent gap) ≡ false
+  Unmoved at-p2 = (isQuiet (p .state) && isFirst (p .reply) && isPassed (p .windows .p2max) gap) ≡ false
+  Unmoved at-p3 = (isQuiet (p .state) && not (isFirst (p .reply)) && isPassed (p .windows .p3max) gap) ≡ false
+  Unmoved at-window = (isStarting (p .state) && isOver (p .start) since) ≡ false
+  Unmoved at-closing = (isOpen (p .state) ≡ false) × (isStarting (p .state) ≡ false)
+  Unmoved at-leaving = isQuiet (p .state) ≡ false
+  Unmoved at-start = ⊥
+  Unmoved at-byte = p .state ≡ Damage
+  Unmoved at-stop = (isQuiet (p .state) && isStopped (p .request)) ≡ false
+  Unmoved at-end = ⊥
+
+  pub data Rule : Moment → Move → Type 0 where
+    rests : {k : Moment} → Unmoved k → Rule k (still p)
+    -- time passes
+    breaks-off : isOpen (p .state) ≡ true → isSilent gap ≡ true → Rule at-silence (ended p)
+    waited : p .state ≡ Quiet → isFirst (p .reply) ≡ true → isPassed (p .windows .p2max) gap ≡ true
+        → Rule at-p2 (makes noReplyReport noReason (settled p))
+    idled : p .state ≡ Quiet → isFirst (p .reply) ≡ false → isPassed (p .windows .p3max) gap ≡ true → Rule at-p3 (makes downReport idleOver down)
+    expires : p .state ≡ Starting → isOver (p .start) since ≡ true → Rule at-window (makes failedReport windowOver off)
+    -- A, W or D closes
+    cuts-off : isOpen (p .state) ≡ true → Rule at-closing (makes damageReport (lossReason p closed) (settled p))
+    aborts : p .state ≡ Starting → Rule at-closing (makes failedReport closed off)
+    leaves : {reason : ℕ} → Closes e reason → p .state ≡ Quiet → Rule at-leaving (makes downReport reason off)
+    -- a start
+    starts-slow : e .kind ≡ Address → isIdle mark (e .start) ≡ true → Rule at-start (still (starting (micros 0) (slowStart (e .value))))
+    starts-fast : e .kind ≡ WakeUp → isIdle mark (e .start) ≡ true → isGoodLow (e .start) (e .end) ≡ true → Rule at-start (still (starting (e .start) fastStart))
+    hurries : (e .kind ≡ Address) ⊎ (e .kind ≡ WakeUp) → isIdle mark (e .start) ≡ false → Rule at-start (makes notIdleReport noReason down)
+    low : e .kind ≡ WakeUp → isIdle mark (e .start) ≡ true → isGoodLow (e .start) (e .end) ≡ false → Rule at-start (makes failedReport wrongLow off)
+    -- a byte of a link that is down, of an initialization, ..
+    strays : p .state ≡ Down → Rule at-byte (makes outsideReport noReason down)
+    misses : p .state ≡ Starting → eqb verdict noReason ≡ false → Rule at-byte (makes failedReport verdict off)
+    connects : p .state ≡ Starting → eqb verdict noReason ≡ true → isLast (p .start .stage) ≡ true
+        → Rule at-byte (makes connectedReport noReason (connected (p .start)))
+    goes-on : p .state ≡ Starting → eqb verdict noReason ≡ true → isLast (p .start .stage) ≡ false
+        → Rule at-byte (still (starting (p .fall) (onward (p .start) (e .value))))
+    -- .. the first of a message, ..
+    opens : p .state ≡ Quiet → eqb (reasonAtFirst p (e .side) (e .value) gap) noReason ≡ true → Rule at-byte (still (holding p (begun (e .side) (e .value))))
+    errs : p .state ≡ Quiet → eqb (reasonAtFirst p (e .side) (e .value) gap) noReason ≡ false
+        → Rule at-byte (still (damaged p (reasonAtFirst p (e .side) (e .value) gap)))
+    -- .. and a later one
+    breaks : p .state ≡ Held → eqb (laterReason (p .message) (e .side) (e .value)) noReason ≡ false
+        → Rule at-byte (still (damaged p (laterReason (p .message) (e .side) (e .value))))
+    frames : p .state ≡ Held → eqb (laterReason (p .message) (e .side) (e .value)) noReason ≡ true → isSum (p .message .part) ≡ true
+        → Rule at-byte (makes frameReport noReason (framed p))
+    grows : p .state ≡ Held → eqb (laterReason (p .message) (e .side) (e .value)) noReason ≡ true → isSum (p .message .part) ≡ false
+        → Rule at-byte (still (holding p (grown (p .message) (e .value))))
+    -- a stop
+    stops : p .state ≡ Quiet → isStopped (p .request) ≡ true → Rule at-stop (makes downReport stopped down)
+
+  -- ---- time passes
+  pub by-silence : Rule at-silence (afterSilence p gap)
+  unfolding afterSilence
+  by-silence = by-test (Rule at-silence) (isOpen (p .state) && isSilent gap) (λ t. let x = and-split _ _ t in breaks-off (x .0) (x .1)) rests
+
+  pub by-p2 : Rule at-p2 (afterP2 p gap)
+  unfolding afterP2
+  by-p2 =
+      by-test (Rule at-p2) (isQuiet (p .state) && isFirst (p .reply) && isPassed (p .windows .p2max) gap)
+      (λ t. let x = and-split _ _ t in
+      let y = and-split _ _ (x .0) in
+      waited (is-quiet _ (y .0)) (y .1) (x .1)) rests
+
+  pub by-p3 : Rule at-p3 (afterP3 p gap)
+  unfolding afterP3
+  by-p3 =
+      by-test (Rule at-p3) (isQuiet (p .state) && not (isFirst (p .reply)) && isPassed (p .windows .p3max) gap)
+      (λ t. let x = and-split _ _ t in
+      let y = and-split _ _ (x .0) in
+      idled (is-quiet _ (y .0)) (not-true (isFirst (p .reply)) (y .1)) (x .1)) rests
+
+  pub by-window : Rule at-window (afterWindow p mark (e .start))
+  unfolding afterWindow
+  by-window =
+      by-test (Rule at-window) (isStarting (p .state) && isOver (p .start) since) (λ t. let x = and-split _ _ t in expires (is-starting _ (x .0)) (x .1)) rests
+
+  -- ---- A, W or D closes
+  pub by-closing : Rule at-closing (closing p)
+  unfolding closing
+  by-closing =
+      by-test (Rule at-closing) (isOpen (p .state)) cuts-off (λ o. by-test (Rule at-closing) (isStarting (p .state)) (λ s. aborts (is-starting _ s)) (λ s. rests (o, s)))
+
+  pub by-leaving : {reason : ℕ} → Closes e reason → Rule at-leaving (leaving p reason)
+  unfolding leaving
+  by-leaving c = by-test (Rule at-leaving) (isQuiet (p .state)) (λ q. leaves c (is-quiet _ q)) rests
+
+  -- ---- a start
+  pub by-slow : e .kind ≡ Address → Rule at-start (startingSlow (e .value) mark (e .start))
+  unfolding startingSlow
+  by-slow k = by-test (Rule at-start) (isIdle mark (e .start)) (starts-slow k) (hurries (inl k))
+
+  pub by-fast : e .kind ≡ WakeUp → Rule at-start (startingFast mark (e .start) (e .end))
+  unfolding startingFast
+  by-fast k =
+      by-test (Rule at-start) (not (isIdle mark (e .start))) (λ t. hurries (inr k) (not-true (isIdle mark (e .start)) t))
+      (λ f. let i = not-false (isIdle mark (e .start)) f in by-test (Rule at-start) (isGoodLow (e .start) (e .end)) (starts-fast k i) (low k i))
+
+  -- ---- a byte
+  by-start : p .state ≡ Starting → Rule at-byte (startByte p (e .side) (e .value) since)
+  unfolding startByte
+  by-start s =
+      by-test (Rule at-byte) (not (eqb verdict noReason)) (λ t. misses s (not-true (eqb verdict noReason) t))
+      (λ f. let r = not-false (eqb verdict noReason) f in by-test (Rule at-byte) (isLast (p .start .stage)) (connects s r) (goes-on s r))
+
+  by-first : p .state ≡ Quiet → Rule at-byte (still (firstByte p (e .side) (e .value) gap))
+  unfolding firstByte
+  by-first q = by-test (λ (x : Phase). Rule at-byte (still x)) (eqb (reasonAtFirst p (e .side) (e .value) gap) noReason) (opens q) (errs q)
+
+  by-later : p .state ≡ Held → Rule at-byte (laterByte p (e .side) (e .value))
+  unfolding laterByte
+  by-later h =
+      let wrong = eqb (laterReason (p .message) (e .side) (e .value)) noReason in
+      by-test (Rule at-byte) (not wrong) (λ t. breaks h (not-true wrong t))
+      (λ f. let r = not-false wrong f in by-test (Rule at-byte) (isSum (p .message .part)) (frames h r) (grows h r))
+
+  by-state : (st : State) → p .state ≡ st → Rule at-byte (byteIn st p (e .side) (e .value) mark (e .start))
+  by-state Down q = strays q
+  by-state Starting q = by-start q
+  by-state Quiet q = by-first q
+  by-state Held q = by-later q
+  by-state Damage q = rests q
+
+  pub by-byte : Rule at-byte (afterByte p (e .side) (e .value) mark (e .start))
+  unfolding afterByte
+  by-byte = by-state (p .state) refl
+
+  pub by-stop : Rule at-stop (afterStop p)
+  unfolding afterStop
+  by-stop = by-test (Rule at-stop) (isQuiet (p .state) && isStopped (p .request)) (λ t. let x = and-split _ _ t in stops (is-quiet _ (x .0)) (x .1)) rests

@@ -1,0 +1,66 @@
+-- The places for reports: what is in them, by their number, and that a report which finds one is the last of the list. Assumes nothing.
+use Prim.Native.Nat.{ℕ, zero, suc, _+_, _≤_, _<_}
+use mathlib.Core.Path.{_≡_, refl}
+use mathlib.Core.List.{[], _∷_, _++_}
+use lib.Dec.{eqb}
+use lib.ListN.{length, length-take}
+use native.Mathlib.Omega.{arith}
+use Rattle.base.proofs.Tests.{by-test}
+use Rattle.reports.specs.Reporting.{places, appended, listed}
+use Rattle.reports.specs.declared.Report.{Report}
+use Rattle.reports.specs.declared.Reports.{Reports}
+
+-- ---- the reports by their number, as the code asks for it
+pub listed-none : (rs : Reports) → rs .n ≡ 0 → listed rs ≡ []
+unfolding listed
+listed-none rs e = rw e refl
+
+pub listed-one : (rs : Reports) → rs .n ≡ 1 → listed rs ≡ (rs .a ∷ [])
+unfolding listed
+listed-one rs e = rw e refl
+
+pub listed-two : (rs : Reports) → rs .n ≡ 2 → listed rs ≡ (rs .a ∷ rs .b ∷ [])
+unfolding listed
+listed-two rs e = rw e refl
+
+all-by : (a b c : Report) (n : ℕ) → places ≤ n → listed (record { a = a; b = b; c = c; n = n }) ≡ (a ∷ b ∷ c ∷ [])
+unfolding listed
+all-by a b c zero h = absurd (omega arith)
+all-by a b c (suc zero) h = absurd (omega arith)
+all-by a b c (suc (suc zero)) h = absurd (omega arith)
+all-by a b c (suc (suc (suc zero))) h = refl
+all-by a b c (suc (suc (suc (suc n)))) h = refl
+
+pub listed-all : (rs : Reports) → (rs .n ≡ 0 → ⊥) → (rs .n ≡ 1 → ⊥) → (rs .n ≡ 2 → ⊥) → listed rs ≡ (rs .a ∷ rs .b ∷ rs .c ∷ [])
+listed-all rs h0 h1 h2 = all-by (rs .a) (rs .b) (rs .c) (rs .n) (omega arith)
+
+-- never more than there are places
+pub listed-few : (rs : Reports) → length (listed rs) ≤ places
+unfolding listed
+listed-few rs = rw (length-take) (omega arith)
+
+-- ---- one report more
+pub record Placed (rs : Reports) (x : Report) : Type 0 where
+  pub last : listed (appended rs x) ≡ listed rs ++ (x ∷ [])
+  pub more : appended rs x .n ≡ rs .n + 1
+
+placed-at : (a b c x : Report) (n : ℕ) → n < places → Placed (record { a = a; b = b; c = c; n = n }) x
+unfolding listed appended
+placed-at a b c x zero h = record { last = refl; more = refl }
+placed-at a b c x (suc zero) h = record { last = refl; more = refl }
+placed-at a b c x (suc (suc zero)) h = record { last = refl; more = refl }
+placed-at a b c x (suc (suc (suc n))) h = absurd (omega arith)
+
+-- a report that finds a place is the last of the list
+pub placed : (rs : Reports) (x : Report) → rs .n < places → Placed rs x
+placed rs x h = placed-at (rs .a) (rs .b) (rs .c) x (rs .n) h
+
+-- and one that finds none fills none
+abbrev Few : Reports → Type 0
+Few rs = rs .n ≤ places
+
+pub appended-few : (rs : Reports) (x : Report) → rs .n ≤ places → appended rs x .n ≤ places
+unfolding appended
+appended-few rs x h =
+    by-test Few (eqb (rs .n) 0) (λ _. omega arith)
+    (λ _. by-test Few (eqb (rs .n) 1) (λ _. omega arith) (λ _. by-test Few (eqb (rs .n) 2) (λ _. omega arith) (λ _. h)))
