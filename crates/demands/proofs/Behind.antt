@@ -2,18 +2,19 @@
 -- words of specs/Sessions.antt and specs/Messages.antt go by the session before the byte; proofs/Opening.antt leads from the one to the other.
 -- Assumes nothing.
 use Prim.Native.Nat.{ℕ}
+use mathlib.Core.Bool.{true}
 use mathlib.Core.List.{List, [], _∷_, _++_}
 use mathlib.Core.Path.{_≡_}
 use mathlib.Core.Logic.{_↔_}
 use lib.ListN.{length}
 use Rattle.base.specs.Numbers.{taken}
 use Rattle.base.specs.Reports.{damageReport, early, stray}
-use Rattle.frame.specs.Read.{readOf}
 use Rattle.events.specs.declared.Kind.the-variants.{Byte, Tick}
 use Rattle.events.specs.declared.Event.{Event}
 use Rattle.reports.specs.declared.Report.{Report}
 use Rattle.demands.specs.Logs.{Log, _▷_, heardIn, numberAfter, takenOf, Begins}
 use Rattle.demands.specs.Refusals.{Not}
+use Rattle.demands.specs.Editions.{endsItself}
 use Rattle.demands.specs.Histories.{after}
 use Rattle.demands.specs.Sessions.{Talk, Session, gapBefore, Early, Stray}
 use Rattle.demands.specs.Messages.{InTime}
@@ -37,7 +38,7 @@ pub data Speaking (t : Talk) (b : Event) : Log → List ℕ → Type 0 where
   refused : {log : Log} {bytes : List ℕ} {e : Event} → Speaking t b log bytes → Not (numberAfter (takenOf log) e ≡ taken) → Speaking t b (log ▷ e) bytes
   waits : {log : Log} {bytes : List ℕ} {e : Event} → Speaking t b log bytes → numberAfter (takenOf log) e ≡ taken → e .kind ≡ Tick
       → InTime (takenOf log) e → Speaking t b (log ▷ e) bytes
-  grows : {log : Log} {bytes : List ℕ} {e : Event} → Speaking t b log bytes → Not (readOf (t .kb1) (t .kb2) bytes .no ≡ taken)
+  grows : {log : Log} {bytes : List ℕ} {e : Event} → Speaking t b log bytes → Not (endsItself (t .pair) bytes ≡ true)
       → numberAfter (takenOf log) e ≡ taken → e .kind ≡ Byte → e .side ≡ b .side → InTime (takenOf log) e
       → Speaking t b (log ▷ e) (bytes ++ (e .value ∷ []))
 
@@ -48,7 +49,7 @@ pub record Finishes (es : Log) (e : Event) (bytes : List ℕ) : Type 0 where
   pub message : Speaking talk first (es ▷ e) bytes
   pub kind : e .kind ≡ Byte
   pub number : numberAfter (takenOf es) e ≡ taken
-  pub read : readOf (talk .kb1) (talk .kb2) bytes .no ≡ taken
+  pub read : endsItself (talk .pair) bytes ≡ true
 
 -- and what its report says of the first byte
 pub record Turned (es : Log) (r : Report) : Type 0 where

@@ -24,6 +24,7 @@ use Rattle.demands.specs.Refusals.{Not}
 use Rattle.demands.specs.Histories.{after, reportsTo, Among}
 use Rattle.demands.specs.Sessions.{Talk, SomeSession, gapBefore, Early, Stray, Turns}
 use Rattle.demands.specs.Accounts.{bytesNamed}
+use Rattle.demands.specs.Editions.{reasonAtEnd}
 use Rattle.demands.specs.Damage.{valuesOf, reasonIn, GoesBy, Damaged}
 use Rattle.demands.proofs.Basics.{basics}
 use Rattle.demands.proofs.Gathering.{talkBehind, values-drop, same-values, same-length}
@@ -59,14 +60,14 @@ held-closed gap n = by-silence (isSilent gap) refl
     by-silence false s = refl
 
 goes-by : (p : Phase) (k : ℕ) (gap : Micros) (r : Report) → k ≡ reasonWith p [] → (isHeld (p .state) ≡ false → Not (p .message .why ≡ noReason))
-    → r .reason ≡ lossReason p (heldWhy gap) → GoesBy k gap r
+    → r .reason ≡ lossReason p (heldWhy gap) → GoesBy k brokenOff gap r
 unfolding talkBehind lossReason
 goes-by p k gap r q n e = by-state (isHeld (p .state)) refl q e
   where
     by-state : (c : Bool) → isHeld (p .state) ≡ c → k ≡ (if c then noReason else p .message .why)
-        → r .reason ≡ (if c then heldWhy gap else p .message .why) → GoesBy k gap r
-    by-state true s q e = record { wrong = λ z. absurd (z q); broken = λ _ h. e ∙ held-broken gap h; closed = λ _ h. e ∙ held-closed gap h }
-    by-state false s q e = record { wrong = λ _. e ∙ sym q; broken = λ z. absurd (n s (sym q ∙ z)); closed = λ z. absurd (n s (sym q ∙ z)) }
+        → r .reason ≡ (if c then heldWhy gap else p .message .why) → GoesBy k brokenOff gap r
+    by-state true s q e = record { wrong = λ z. absurd (z q); ended = λ _ h. e ∙ held-broken gap h; closed = λ _ h. e ∙ held-closed gap h }
+    by-state false s q e = record { wrong = λ _. e ∙ sym q; ended = λ z. absurd (n s (sym q ∙ z)); closed = λ z. absurd (n s (sym q ∙ z)) }
 
 -- ---- a report 2 of an event
 module _ (es : Log) (e : Event) (r : Report) (i : InBytes (es ▷ e)) (a : Among r (reportsTo ours es e)) (n : r .number ≡ damageReport) where
@@ -143,17 +144,18 @@ module _ (es : Log) (e : Event) (r : Report) (i : InBytes (es ▷ e)) (a : Among
       (rw (getD-drop (l .named) (heardIn es) k 0) (heard-bytes es front (l .named + k)))
 
   reason-of : Not (Early t (t .reply) firstGap (opened .byte)) → Not (Stray t (t .reply) firstGap (opened .byte))
-      → reasonIn (opens .talk .kb1) (bytesNamed (bytesOf (takenOf es)) r) ≡ reasonWith (l .phase) []
+      → reasonIn (opens .talk .pair) (bytesNamed (bytesOf (takenOf es)) r) ≡ reasonWith (l .phase) []
   reason-of f g =
-      ap₂ reasonIn (sym (ap (λ (u : Talk). u .kb1) (opens .same))) names
-      ∙ sym (reasons-agree (t .kb1) (drop (l .named) (bytesOf (takenOf es)) ++ []) named-bytes) ∙ opened .reasoned f g []
+      ap₂ reasonIn (sym (ap (λ (u : Talk). u .pair) (opens .same))) names
+      ∙ sym (reasons-agree (t .pair) (drop (l .named) (bytesOf (takenOf es)) ++ []) named-bytes) ∙ opened .reasoned f g []
 
   reasons : Damaged ours es e r
   unfolding turns
   reasons = record {
     turns = turns;
     otherwise = λ f g.
-        subst (λ (x : Micros). GoesBy (reasonIn (opens .talk .kb1) (bytesNamed (bytesOf (takenOf es)) r)) x r) (same-gap es e t front (inside .session))
+        let bytes = bytesNamed (bytesOf (takenOf es)) r in
+        subst (λ (x : Micros). GoesBy (reasonIn (opens .talk .pair) bytes) (reasonAtEnd (opens .talk .pair) bytes) x r) (same-gap es e t front (inside .session))
         (goes-by (l .phase) _ gap r
         (reason-of (λ q. f (subst (λ (u : Talk). Early u (u .reply) firstGap (opened .byte)) (opens .same) q))
         (λ q. g (subst (λ (u : Talk). Stray u (u .reply) firstGap (opened .byte)) (opens .same) q)))

@@ -20,6 +20,7 @@ use Rattle.base.proofs.Tests.{and-split}
 use Rattle.keys.specs.Keys.{goodPair, lengthInFormat, extraLength}
 use Rattle.keys.specs.declared.Form.{Form}
 use Rattle.keys.specs.declared.Form.the-variants.{Plain, Physical, Functional, Foreign}
+use Rattle.keys.specs.declared.Pair.{Pair}
 use Rattle.timing.specs.Timing.{setOf, decodedOf}
 use Rattle.timing.specs.declared.Windows.{Windows}
 use Rattle.frame.specs.Layout.{formNumbered, formatForm, addressCount, extraCount, headSize, frameOf, isNowhere}
@@ -39,6 +40,7 @@ use Rattle.talk.specs.declared.Part.the-variants.{Target, Data}
 use Rattle.talk.specs.declared.Message.{Message}
 use Rattle.talk.specs.Messages.{endsIn, isMessage}
 use Rattle.talk.proofs.Frames.{message-reads}
+use Rattle.demands.specs.Editions.{isLinkPair, isFrame}
 use Rattle.demands.specs.Sessions.{same, stops, resets, retimes, codesIn}
 
 -- ---- what is said
@@ -157,17 +159,17 @@ kept-asked m d c = record { request-is = c .request; codes-are = c .codes }
 
 -- ---- what a unit frame does
 -- the windows in force behind it
-pub reply-windows : (request : Request) (seven kb1 : ℕ) (q a : List ℕ) (m : Message) (w : Windows) → Kept request seven q → Carries m a
-    → windowsAfter request m kb1 seven w ≡ (if resets q a then setOf kb1 else if retimes q a then ifAllowed (decodedOf (codesIn q)) w else w)
+pub reply-windows : (request : Request) (seven : ℕ) (pair : Pair) (q a : List ℕ) (m : Message) (w : Windows) → Kept request seven q → Carries m a
+    → windowsAfter request m pair seven w ≡ (if resets q a then setOf pair else if retimes q a then ifAllowed (decodedOf (codesIn q)) w else w)
 unfolding windowsAfter windowsFor isEffective resets retimes
-reply-windows request seven kb1 q a m w k c = by-asked request (kept-asks request seven q k) (k .request-is)
+reply-windows request seven pair q a m w k c = by-asked request (kept-asks request seven q k) (k .request-is)
   where
     if-same : (b : Bool) → (if b then w else w) ≡ w
     if-same true = refl
     if-same false = refl
 
     by-asked : (request : Request) → Asks q request → request ≡ requestBy q
-        → windowsAfter request m kb1 seven w ≡ (if resets q a then setOf kb1 else if retimes q a then ifAllowed (decodedOf (codesIn q)) w else w)
+        → windowsAfter request m pair seven w ≡ (if resets q a then setOf pair else if retimes q a then ifAllowed (decodedOf (codesIn q)) w else w)
     by-asked Stop (stop s o n) e = rw (o, n) (if-same (eqb (m .first) 0xC2))
     by-asked OwnTiming (own s o n) e = rw (o, n, c .own)
     by-asked NewTiming (new s o n) e = rw (o, n, c .new, k .codes-are (sym e))
@@ -514,3 +516,9 @@ message-carries kb1 kb2 side f vs v good byte e =
     let p = read-parts kb1 kb2 f (vs ++ (v ∷ [])) byte (eqb-true (readOf kb1 kb2 s .no) taken (sym (message-reads kb1 kb2 side s good byte) ∙ e)) in
     let d = dataOf kb1 kb2 s in
     told-carries _ d (form-told (formatForm f) (eqb (f % 64) 0) d vs v side (f % 64) f p) (p .sound .some)
+
+-- and bytes are such a message exactly if they are a frame under these key bytes
+pub message-frame : (pair : Pair) (side : Side) (s : List ℕ) → isLinkPair pair ≡ true → ((i : ℕ) → getD s i 0 < 256)
+    → isMessage (pair .kb1) side s ≡ isFrame pair s
+unfolding isFrame
+message-frame pair side s good byte = message-reads (pair .kb1) (pair .kb2) side s good byte

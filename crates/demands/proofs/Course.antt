@@ -142,7 +142,7 @@ event-ends es e t b a = by-number (eqb (numberAfter (takenOf es) e) taken) refl
         subst (Answered es e t) (sym (answer-refused es e (eqb-false (numberAfter (takenOf es) e) taken n))) (refused-ends es e t _ n a)
 
 -- ---- a session from its beginning on
-opens-at : (es : Log) (e : Event) → numberAfter (takenOf es) e ≡ taken → (c : Connects (takenOf es) e) → AtLink (es ▷ e) (opening (c .kb1) (c .kb2))
+opens-at : (es : Log) (e : Event) → numberAfter (takenOf es) e ≡ taken → (c : Connects (takenOf es) e) → AtLink (es ▷ e) (opening (c .pair))
 unfolding after isConnected isQuiet isOpen isStarting windowsIn pendingIn
 opens-at es e n c =
     let x = connects-link es e n c in
@@ -151,8 +151,7 @@ opens-at es e n c =
       fits = record {
         connected = ap isConnected (x .state);
         good = x .answer .good;
-        kb1 = x .kb1;
-        kb2 = x .kb2;
+        pair = x .pair;
         windows = x .windows;
         reply = x .reply;
         kept = subst (λ (q : Request). Kept q (p .asked) []) (sym (x .request)) (kept-none (p .asked));

@@ -24,6 +24,7 @@ use Rattle.demands.specs.Histories.{Machine, reportsTo, reportsOf, Among
 use Rattle.demands.specs.Accounts.{namedBy, bytesNamed, heldIn, InTurn, namedIn}
 use Rattle.demands.specs.Sessions.{Talk, Session, EarlyAt, StrayAt, FirstByte, gapBefore, Early, Stray, replyAt}
 use Rattle.demands.specs.Messages.{ReportsFrame}
+use Rattle.demands.specs.Editions.{reasonAtEnd}
 use Rattle.demands.specs.Damage.{reasonIn, GoesBy, Damaged}
 use Rattle.demands.specs.Deciding.{Meets}
 use Rattle.demands.proofs.Finding.{says-speaks, among-says}
@@ -105,11 +106,11 @@ front-next s t es before e b whole a = a
 front-next s t es before e b (more g) a = front s t es before b g a
 
 -- a reason that goes by the same bytes and gap is the same
-goes-same : (k l : ℕ) (gap : Micros) (r q : Report) → k ≡ l → GoesBy k gap r → GoesBy l gap q → r .reason ≡ q .reason
-goes-same k l gap r q e x y = by-zero (eqb k noReason) refl
+goes-same : (k l i j : ℕ) (gap : Micros) (r q : Report) → k ≡ l → i ≡ j → GoesBy k i gap r → GoesBy l j gap q → r .reason ≡ q .reason
+goes-same k l i j gap r q e d x y = by-zero (eqb k noReason) refl
   where
     by-gap : (b : Bool) → ltb 20_000 (gap .0) ≡ b → k ≡ noReason → r .reason ≡ q .reason
-    by-gap true g z = x .broken z (ltb-true 20_000 (gap .0) g) ∙ sym (y .broken (sym e ∙ z) (ltb-true 20_000 (gap .0) g))
+    by-gap true g z = x .ended z (ltb-true 20_000 (gap .0) g) ∙ d ∙ sym (y .ended (sym e ∙ z) (ltb-true 20_000 (gap .0) g))
     by-gap false g z =
         let n : Not (20_000 < gap .0) = λ h. let o = ltb-false 20_000 (gap .0) g in omega arith in
         x .closed z n ∙ sym (y .closed (sym e ∙ z) n)
@@ -162,9 +163,13 @@ module _ (B : Both) (r q : Report) (nr : r .number ≡ damageReport) (hb : r .by
   stray-is : StrayAt (B .s) (X .before) (X .byte) (X .talk) ≡ StrayAt (B .t) (Y .before) (Y .byte) (Y .talk)
   stray-is = said-same (λ k n gap b. Stray k (replyAt k n gap) gap b)
 
-  bytes-say : reasonIn (X .talk .kb1) (bytesNamed (bytesOf (takenOf (B .es))) r) ≡ reasonIn (Y .talk .kb1) (bytesNamed (bytesOf (takenOf (B .es))) q)
+  bytes-say : reasonIn (X .talk .pair) (bytesNamed (bytesOf (takenOf (B .es))) r) ≡ reasonIn (Y .talk .pair) (bytesNamed (bytesOf (takenOf (B .es))) q)
   unfolding bytesNamed
-  bytes-say i = reasonIn (talk-is i .kb1) (take (hb i) (drop (hf i) (bytesOf (takenOf (B .es)))))
+  bytes-say i = reasonIn (talk-is i .pair) (take (hb i) (drop (hf i) (bytesOf (takenOf (B .es)))))
+
+  end-says : reasonAtEnd (X .talk .pair) (bytesNamed (bytesOf (takenOf (B .es))) r) ≡ reasonAtEnd (Y .talk .pair) (bytesNamed (bytesOf (takenOf (B .es))) q)
+  unfolding bytesNamed
+  end-says i = reasonAtEnd (talk-is i .pair) (take (hb i) (drop (hf i) (bytesOf (takenOf (B .es)))))
 
   by-stray : Not (r .reason ≡ early) → (k : Bool) → eqb (r .reason) stray ≡ k → r .reason ≡ q .reason
   by-stray o true k =
@@ -173,7 +178,7 @@ module _ (B : Both) (r q : Report) (nr : r .number ≡ damageReport) (hb : r .by
   by-stray o false k =
       let p : Not (EarlyAt (B .s) (X .before) (X .byte) (X .talk)) = λ z. o (x .turns .early .1 z .1) in
       let n : Not (StrayAt (B .s) (X .before) (X .byte) (X .talk)) = λ z. eqb-false (r .reason) stray k (x .turns .stray .1 z .1) in
-      goes-same _ _ (gapBefore (takenOf (B .es)) (B .e)) r q bytes-say (x .otherwise p n)
+      goes-same _ _ _ _ (gapBefore (takenOf (B .es)) (B .e)) r q bytes-say end-says (x .otherwise p n)
       (y .otherwise (subst (λ (P : Type 0). Not P) early-is p) (subst (λ (P : Type 0). Not P) stray-is n))
 
   by-early : (k : Bool) → eqb (r .reason) early ≡ k → r .reason ≡ q .reason

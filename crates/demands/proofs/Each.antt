@@ -286,8 +286,8 @@ head-harms kb1 f =
 first-harms : (p : Phase) (side : Side) (v : ℕ) (gap : Micros) → Harms (reasonAtFirst p side v gap)
 unfolding reasonAtFirst firstReason
 first-harms p side v gap =
-    by-test Harms (eqb (turnReason (p .reply) (p .windows) side gap) noReason) {x = headReason (p .start .kb1) v} {y = turnReason (p .reply) (p .windows) side gap}
-    (λ _. head-harms (p .start .kb1) v) (λ _. turn-harms (p .reply) (p .windows) side gap)
+    by-test Harms (eqb (turnReason (p .reply) (p .windows) side gap) noReason) {x = headReason (p .start .pair .kb1) v} {y = turnReason (p .reply) (p .windows) side gap}
+    (λ _. head-harms (p .start .pair .kb1) v) (λ _. turn-harms (p .reply) (p .windows) side gap)
 
 part-harms : (part : Part) (m : Message) (v : ℕ) → Harms (partReason part m v)
 part-harms Target m v = harmless

@@ -1,7 +1,7 @@
 -- DEMAND 2: behind any events from a fresh link, an event is answered with report 3 exactly if it is taken and completes a good initialization: a
 -- condition on the events taken before it, and on no link.
 -- Assumes nothing.
-use Prim.Native.Nat.{ℕ, _+_, _≤_}
+use Prim.Native.Nat.{_+_, _≤_}
 use mathlib.Core.Bool.{Bool, true, false, false≢true}
 use mathlib.Core.Logic.{_↔_, _⊎_, inl, inr}
 use mathlib.Core.Path.{_≡_, _∙_, refl, sym, ap}
@@ -11,7 +11,8 @@ use borrow.Author.Tests.{eqb-true, eqb-false, eq-eqb}
 use Rattle.base.specs.Numbers.{taken}
 use Rattle.base.specs.Reports.{connectedReport}
 use Rattle.units.specs.declared.Micros.{Micros}
-use Rattle.keys.specs.Keys.{goodPair}
+use Rattle.keys.specs.Keys.{isGood}
+use Rattle.keys.specs.declared.Pair.{Pair}
 use Rattle.events.specs.declared.Kind.{Kind}
 use Rattle.events.specs.declared.Kind.the-variants.{Address, WakeUp, Byte, Tick, Drop, Other}
 use Rattle.events.specs.declared.Event.{Event}
@@ -43,13 +44,12 @@ module _ (log : Log) (e : Event) (x : Ends log e) where
   abbrev made : Start
   made = startOn (x .start) (x .bytes)
 
-  connects-with : SlowStart (x .start) (made .kb1) (made .kb2) (x .bytes ▷ e) ⊎ FastStart (x .start) (made .kb1) (made .kb2) (x .bytes ▷ e) → Connects log e
+  connects-with : SlowStart (x .start) (made .pair) (x .bytes ▷ e) ⊎ FastStart (x .start) (made .pair) (x .bytes ▷ e) → Connects log e
   connects-with g = record {
     start = x .start;
     before = x .before;
     bytes = x .bytes;
-    kb1 = made .kb1;
-    kb2 = made .kb2;
+    pair = made .pair;
     since = x .since;
     idle = runs-idle m (x .start) (x .bytes) (x .done .0);
     last = x .last;
@@ -67,11 +67,11 @@ module _ (log : Log) (e : Event) (x : Ends log e) where
   connects-of : Connects log e
   connects-of = connects-by (x .start .kind) refl (runs-starts m (x .start) (x .bytes) (x .done .0))
 
-pub done-of : (m : Micros) (a : Event) (kb1 kb2 : ℕ) (bs : Log) (e : Event) → m .0 + 300_000 ≤ a .start .0
-    → SlowStart a kb1 kb2 (bs ▷ e) ⊎ FastStart a kb1 kb2 (bs ▷ e)
-    → Done m a bs e × (startOn a bs .kb1 ≡ kb1) × (startOn a bs .kb2 ≡ kb2) × (goodPair kb1 kb2 ≡ true)
-done-of m a kb1 kb2 bs e i (inl s) = done-slow m a kb1 kb2 bs e i s
-done-of m a kb1 kb2 bs e i (inr s) = done-fast m a kb1 kb2 bs e i s
+pub done-of : (m : Micros) (a : Event) (pair : Pair) (bs : Log) (e : Event) → m .0 + 300_000 ≤ a .start .0
+    → SlowStart a pair (bs ▷ e) ⊎ FastStart a pair (bs ▷ e)
+    → Done m a bs e × (startOn a bs .pair ≡ pair) × (isGood pair ≡ true)
+done-of m a pair bs e i (inl s) = done-slow m a pair bs e i s
+done-of m a pair bs e i (inr s) = done-fast m a pair bs e i s
 
 abbrev pub ended-by : (log : Log) (e : Event) → Connects log e → Ends log e
 ended-by log e c = record {
@@ -79,7 +79,7 @@ ended-by log e c = record {
   before = c .before;
   bytes = c .bytes;
   since = c .since;
-  done = done-of (markOf (c .before)) (c .start) (c .kb1) (c .kb2) (c .bytes) e (c .idle) (c .good) .0;
+  done = done-of (markOf (c .before)) (c .start) (c .pair) (c .bytes) e (c .idle) (c .good) .0;
   last = c .last;
 }
 

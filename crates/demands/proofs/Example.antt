@@ -9,7 +9,7 @@ use native.Mathlib.Omega.{arith}
 use Rattle.base.specs.Numbers.{taken}
 use Rattle.base.specs.Reports.{connectedReport, noReason}
 use Rattle.units.specs.Units.{micros}
-use Rattle.keys.specs.Keys.{goodPair, lengthInFormat, extraLength, noAddresses, withAddresses}
+use Rattle.keys.specs.Keys.{goodPair, pairOf, lengthInFormat, extraLength, noAddresses, withAddresses}
 use Rattle.events.specs.Events.{isOther, isByte, isNobody, isUnknown, isTooLate, isOutOfOrder, refusal, marks}
 use Rattle.events.specs.declared.Kind.the-variants.{Address, WakeUp, Byte}
 use Rattle.events.specs.declared.Side.{Side}
@@ -48,7 +48,7 @@ fastEvents = none ▷ wakeUp ▷ tester 0x81 350_000 ▷ tester 0x11 355_960 ▷
 abbrev pub fastLast : Event
 fastLast = unit 0xC4 410_560
 
-pub fast-good : FastStart wakeUp 0xEF 0x8F (fastBytes ▷ fastLast)
+pub fast-good : FastStart wakeUp (pairOf 0xEF 0x8F) (fastBytes ▷ fastLast)
 unfolding goodPair lengthInFormat extraLength noAddresses withAddresses IsOne
 fast-good =
     fast {service = unit 0xC1 407_680} {one = unit 0xEF 408_640} {two = unit 0x8F 409_600} {sum = fastLast}
@@ -69,8 +69,7 @@ fast-connects = record {
   start = wakeUp;
   before = none;
   bytes = fastBytes;
-  kb1 = 0xEF;
-  kb2 = 0x8F;
+  pair = pairOf 0xEF 0x8F;
   since = byte refl (byte refl (byte refl (byte refl (byte refl (byte refl (byte refl (byte refl (byte refl (byte refl (byte refl here))))))))));
   idle = fast-idle;
   last = refl;
@@ -96,7 +95,7 @@ slowEvents = slowBefore ▷ asked ▷ unit 0x55 5_100_000 ▷ unit 0xEF 5_110_96
 abbrev pub slowLast : Event
 slowLast = unit 0xCC 5_178_840
 
-pub slow-good : SlowStart asked 0xEF 0x8F (slowBytes ▷ slowLast)
+pub slow-good : SlowStart asked (pairOf 0xEF 0x8F) (slowBytes ▷ slowLast)
 unfolding goodPair lengthInFormat extraLength noAddresses withAddresses
 slow-good =
     slow {s = unit 0x55 5_100_000} {one = unit 0xEF 5_110_960} {two = unit 0x8F 5_116_920} {back = tester 0x70 5_147_880} {done = slowLast}
@@ -112,8 +111,7 @@ slow-connects = record {
   start = asked;
   before = slowBefore;
   bytes = slowBytes;
-  kb1 = 0xEF;
-  kb2 = 0x8F;
+  pair = pairOf 0xEF 0x8F;
   since = byte refl (byte refl (byte refl (byte refl here)));
   idle = slow-idle;
   last = refl;

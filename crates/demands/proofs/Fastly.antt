@@ -11,7 +11,8 @@ use native.Mathlib.Nat.{zero-add}
 use Rattle.base.specs.Choice.{if_then_else_}
 use Rattle.base.specs.Sums.{byteSum}
 use Rattle.units.specs.declared.Micros.{Micros}
-use Rattle.keys.specs.Keys.{goodPair}
+use Rattle.keys.specs.Keys.{pairOf, isGood}
+use Rattle.keys.specs.declared.Pair.{Pair}
 use Rattle.events.specs.declared.Kind.{Kind}
 use Rattle.events.specs.declared.Kind.the-variants.{WakeUp}
 use Rattle.events.specs.declared.Side.the-variants.{Tester, Unit}
@@ -139,7 +140,7 @@ one-more w bs s b (d11 {service = y} {one = one} {n = n} {x = x} h p1 p2 e) g z 
 one-more w bs s b (d12 h p1 p2 p3 e) g z = absurd (false≢true (sym z))
 
 abbrev Good : Event → Log → Start → Event → Type 0
-Good w bs s b = FastStart w (s .kb1) (s .kb2) (bs ▷ b)
+Good w bs s b = FastStart w (s .pair) (bs ▷ b)
 
 finish : (w : Event) (bs : Log) (s : Start) (b : Event) → SoFar w bs s → Passes s (fallBy WakeUp (w .start)) (lastEnd w bs) b → isLast (s .stage) ≡ true
     → Good w bs s b
@@ -163,7 +164,7 @@ finish w bs s b (d12 {one = one} {two = two} h p1 p2 p3 e) g z =
     let c = comes-next refl g in fast {one = one} {two = two} {sum = b} h p1 p2 p3 (c .0, c .1, (c .2 .0 ∙ e, c .2 .1))
 
 pub fast-done : (m : Micros) (w : Event) (bs : Log) (b : Event) → w .kind ≡ WakeUp → Done m w bs b
-    → FastStart w (startOn w bs .kb1) (startOn w bs .kb2) (bs ▷ b)
+    → FastStart w (startOn w bs .pair) (bs ▷ b)
 fast-done m w bs b k d = done-good WakeUp SoFar first one-more Good finish m w bs b k d
 
 -- ---- the place that is due is the stage's
@@ -197,7 +198,7 @@ place-by w bs s (d12 {bs = hs} {service = y} {one = one} {two = two} {x = x} h p
     ap (λ (es : List Event). dueFast (es ++ (two ∷ []))) (append-assoc (eventsOf hs) (y ∷ []) (one ∷ []))
     ∙ ap dueFast (append-assoc (eventsOf hs) (y ∷ one ∷ []) (two ∷ []))
     ∙ header-due h (y ∷ one ∷ two ∷ [])
-    ∙ ap (λ (v : ℕ). lastPlace Unit 0 20_000 (sumBehind v (one .value) (two .value))) (sym e)
+    ∙ ap (λ (v : ℕ). lastPlace Unit 0 20_000 (sumBehind v (pairOf (one .value) (two .value)))) (sym e)
 
 pub fast-place : (m : Micros) (w : Event) (bs : Log) → w .kind ≡ WakeUp → Runs m w bs → due w (eventsOf bs) ≡ placeOf (startOn w bs)
 unfolding due isAddress
@@ -298,10 +299,10 @@ on-header m w bs h n i (addressed-long {bs = rq} {c = c} {f = f} {t = t} {s = s}
     on-length m w (rq ▷ f ▷ t) s len (x3 m w rq c f i r p t s p2 p3) (f .value + t .value + s .value)
     (on-long m w rq c f i r p t s p2 p3 (on-format m w rq c f i r p LongTarget (ap afterFormat v))) p4 (sum3 m w rq c f i r p t s p2 p3)
 
-pub done-fast : (m : Micros) (w : Event) (kb1 kb2 : ℕ) (bs : Log) (b : Event) → m .0 + 300_000 ≤ w .start .0 → FastStart w kb1 kb2 (bs ▷ b)
-    → Done m w bs b × (startOn w bs .kb1 ≡ kb1) × (startOn w bs .kb2 ≡ kb2) × (goodPair kb1 kb2 ≡ true)
+pub done-fast : (m : Micros) (w : Event) (pair : Pair) (bs : Log) (b : Event) → m .0 + 300_000 ≤ w .start .0 → FastStart w pair (bs ▷ b)
+    → Done m w bs b × (startOn w bs .pair ≡ pair) × (isGood pair ≡ true)
 unfolding roleAt isOpening nextStage onward sumAfter isPairOne isPairTwo isRequestEnd isLast isEnding byteSum
-done-fast m w kb1 kb2 bs b i (fast {bs = hs} {h = h} {service = service} {one = one} {two = two} {n = n} hd p1 p2 p3 p4) =
+done-fast m w pair bs b i (fast {bs = hs} {h = h} {service = service} {one = one} {two = two} {n = n} hd p1 p2 p3 p4) =
     let H = on-header m w hs h n i hd in
     let x = H .sum in
     let y1 : ℕ = (x + service .value) % 256 in
@@ -313,7 +314,6 @@ done-fast m w kb1 kb2 bs b i (fast {bs = hs} {h = h} {service = service} {one = 
     let o2 = on-next m w (hs ▷ service) (at 0 KeyOne y1 0 0) one (service .end) refl refl o1 p2 refl in
     let o3 = on-next m w (hs ▷ service ▷ one) (at 0 KeyTwo y2 (one .value) 0) two (one .end) refl refl o2 p3 refl in (
       on-last m w (hs ▷ service ▷ one ▷ two) (at 0 Sum y3 (one .value) (two .value)) b (two .end) refl refl o3 (p4 .0, p4 .1, (sum, p4 .2 .1)) refl,
-      ap (λ (s : Start). s .kb1) (o3 .at),
-      ap (λ (s : Start). s .kb2) (o3 .at),
+      ap (λ (s : Start). s .pair) (o3 .at),
       p4 .2 .1,
     )

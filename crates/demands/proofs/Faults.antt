@@ -17,6 +17,7 @@ use Rattle.base.specs.Sums.{byteSum}
 use Rattle.base.specs.Reports.{noReason, modeOne, wrongForm, otherSide, wrongLength, wrongSum}
 use Rattle.keys.specs.Keys.{takesForm, lengthInFormat, extraLength, noAddresses, withAddresses, isExtended}
 use Rattle.keys.specs.declared.Form.the-variants.{Plain, Physical, Functional, Foreign}
+use Rattle.keys.specs.declared.Pair.{Pair}
 use Rattle.frame.specs.Layout.{formatForm, total}
 use Rattle.frame.proofs.Lists.{total-append}
 use Rattle.events.specs.Events.{sameSide}
@@ -296,10 +297,11 @@ behind-agree kb1 b before m t (c ∷ cs) h =
     (later-fault (b .side) (b .value) (valuesOf before) m c t)
 
 -- THE REASON THAT BYTES GIVE by the rules of crates/talk is the one that their values, bits and sides give
-pub reasons-agree : (kb1 : ℕ) (bs : List Event) → Bytes (valuesOf bs) → talkReason kb1 bs ≡ reasonIn kb1 bs
+pub reasons-agree : (pair : Pair) (bs : List Event) → Bytes (valuesOf bs) → talkReason pair bs ≡ reasonIn pair bs
 unfolding talkReason reasonBehind faultAt valuesOf
-reasons-agree kb1 [] h = refl
-reasons-agree kb1 (b ∷ bs) h =
+reasons-agree pair [] h = refl
+reasons-agree pair (b ∷ bs) h =
+    let kb1 = pair .kb1 in
     same-choice (headReason kb1 (b .value)) _ (reasonBehind kb1 (b ∷ []) bs)
     (λ _. behind-agree kb1 b [] (begun (b .side) (b .value)) (begins (b .side) (b .value) (h 0)) bs (λ i. h (suc i)))
     ∙ ap (λ (k : ℕ). if eqb k noReason then reasonBehind kb1 (b ∷ []) bs else k) (head-fault kb1 (b .value))

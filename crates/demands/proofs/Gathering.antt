@@ -13,6 +13,7 @@ use Rattle.base.specs.Choice.{if_then_else_}
 use Rattle.base.specs.Numbers.{taken}
 use Rattle.base.specs.Reports.{noReason}
 use Rattle.base.proofs.Tests.{by-test}
+use Rattle.keys.specs.declared.Pair.{Pair}
 use Rattle.events.specs.Events.{isByte}
 use Rattle.events.specs.declared.Kind.{Kind}
 use Rattle.events.specs.declared.Kind.the-variants.{Byte}
@@ -81,18 +82,20 @@ talkBehind m (b ∷ bs) =
     if eqb (laterReason m (b .side) (b .value)) noReason then talkBehind (grown m (b .value)) bs else laterReason m (b .side) (b .value)
 
 -- from the first byte on
-unfoldable pub talkReason : ℕ → List Event → ℕ
-talkReason kb1 [] = noReason
-talkReason kb1 (b ∷ bs) = if eqb (headReason kb1 (b .value)) noReason then talkBehind (begun (b .side) (b .value)) bs else headReason kb1 (b .value)
+unfoldable pub talkReason : Pair → List Event → ℕ
+talkReason pair [] = noReason
+talkReason pair (b ∷ bs) =
+    if eqb (headReason (pair .kb1) (b .value)) noReason then talkBehind (begun (b .side) (b .value)) bs else headReason (pair .kb1) (b .value)
 
-pub head-wrong : (kb1 : ℕ) (b : Event) (bs : List Event) → (headReason kb1 (b .value) ≡ noReason → ⊥) → talkReason kb1 (b ∷ bs) ≡ headReason kb1 (b .value)
+pub head-wrong : (pair : Pair) (b : Event) (bs : List Event) → (headReason (pair .kb1) (b .value) ≡ noReason → ⊥)
+    → talkReason pair (b ∷ bs) ≡ headReason (pair .kb1) (b .value)
 unfolding talkReason
-head-wrong kb1 b bs n = rw (ne-eqb (headReason kb1 (b .value)) noReason n) refl
+head-wrong pair b bs n = rw (ne-eqb (headReason (pair .kb1) (b .value)) noReason n) refl
 
-pub head-right : (kb1 : ℕ) (b : Event) (bs : List Event) → headReason kb1 (b .value) ≡ noReason
-    → talkReason kb1 (b ∷ bs) ≡ talkBehind (begun (b .side) (b .value)) bs
+pub head-right : (pair : Pair) (b : Event) (bs : List Event) → headReason (pair .kb1) (b .value) ≡ noReason
+    → talkReason pair (b ∷ bs) ≡ talkBehind (begun (b .side) (b .value)) bs
 unfolding talkReason
-head-right kb1 b bs q = rw (eq-eqb (headReason kb1 (b .value)) noReason q) refl
+head-right pair b bs q = rw (eq-eqb (headReason (pair .kb1) (b .value)) noReason q) refl
 
 pub later-wrong : (m : Message) (b : Event) (bs : List Event) → (laterReason m (b .side) (b .value) ≡ noReason → ⊥)
     → talkBehind m (b ∷ bs) ≡ laterReason m (b .side) (b .value)

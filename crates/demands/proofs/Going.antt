@@ -14,9 +14,9 @@ use Rattle.base.specs.Reports.{frameReport, damageReport, noReplyReport, downRe
 use Rattle.base.proofs.Tests.{and-split, by-test}
 use Rattle.units.specs.Units.{gapOf}
 use Rattle.units.specs.declared.Micros.{Micros}
-use Rattle.keys.specs.Keys.{goodPair}
+use Rattle.keys.specs.declared.Pair.{Pair}
 use Rattle.timing.specs.Timing.{isPassed}
-use Rattle.frame.specs.Read.{readOf, dataOf}
+use Rattle.frame.specs.Read.{dataOf}
 use Rattle.events.specs.declared.Side.{Side}
 use Rattle.events.specs.declared.Side.the-variants.{Unit}
 use Rattle.events.specs.declared.Event.{Event}
@@ -38,6 +38,7 @@ use Rattle.link.specs.Handling.{passed}
 use Rattle.link.specs.Telling.{tells, passedTells}
 use Rattle.demands.specs.Logs.{Log, _▷_, bytesOf, heardIn, takenOf, Begins, more}
 use Rattle.demands.specs.Refusals.{Not}
+use Rattle.demands.specs.Editions.{isLinkPair, isFrame}
 use Rattle.demands.specs.Histories.{isAmong, Among, Tells}
 use Rattle.demands.specs.Accounts.{namedBy}
 use Rattle.demands.specs.Sessions.{Frames, stops, pendingIn, Talk, afterReport, talkAfter, inForce, gapBefore, Stray, Early}
@@ -50,19 +51,18 @@ use Rattle.demands.proofs.Saying.{Each, each-none, each-one, each-both,
 -- its phase has what the talk says
 pub record Fits (t : Talk) (p : Phase) : Type 0 where
   pub connected : isConnected (p .state) ≡ true
-  pub good : goodPair (t .kb1) (t .kb2) ≡ true
-  pub kb1 : p .start .kb1 ≡ t .kb1
-  pub kb2 : p .start .kb2 ≡ t .kb2
+  pub good : isLinkPair (t .pair) ≡ true
+  pub pair : p .start .pair ≡ t .pair
   pub windows : p .windows ≡ inForce t
   pub reply : p .reply ≡ t .reply
-  pub kept : Kept (p .request) (p .asked) (pendingIn (t .kb1) (t .kb2) (t .frames))
+  pub kept : Kept (p .request) (p .asked) (pendingIn (t .pair) (t .frames))
 
 -- a message held, from its first byte b on: the bytes behind that went on with it
 pub record Holds (es : Log) (t : Talk) (b : Event) (p : Phase) (named : ℕ) : Type 0 where
   pub head : ℕ
   pub rest : List ℕ
   pub bytes : drop named (heardIn es) ≡ head ∷ rest
-  pub right : headReason (p .start .kb1) head ≡ noReason
+  pub right : headReason (p .start .pair .kb1) head ≡ noReason
   pub gone : GoneOn (b .side) (opening-message (b .side) head) rest (p .message)
   pub whose : p .message .side ≡ b .side
   pub spoken : Speaking t b es (head ∷ rest)
@@ -83,10 +83,10 @@ pub record Opened (es : Log) (t : Talk) (p : Phase) (named : ℕ) : Type 0 where
   pub hasty : (lossReason p noReason ≡ early) ↔ Early t (t .reply) (gapBefore (takenOf before) byte) byte
   pub astray : (lossReason p noReason ≡ stray) ↔ Stray t (t .reply) (gapBefore (takenOf before) byte) byte
   pub fresh : length (heardIn es) ≡ named + 1
-      → firstReason (t .kb1) (t .reply) (inForce t) (byte .side) (byte .value) (gapBefore (takenOf before) byte) ≡ noReason
+      → firstReason (t .pair) (t .reply) (inForce t) (byte .side) (byte .value) (gapBefore (takenOf before) byte) ≡ noReason
       → isHeld (p .state) ≡ true
   pub reasoned : Not (Early t (t .reply) (gapBefore (takenOf before) byte) byte) → Not (Stray t (t .reply) (gapBefore (takenOf before) byte) byte)
-      → (bs : List Event) → talkReason (t .kb1) (drop named (bytesOf (takenOf es)) ++ bs) ≡ reasonWith p bs
+      → (bs : List Event) → talkReason (t .pair) (drop named (bytesOf (takenOf es)) ++ bs) ≡ reasonWith p bs
   pub against : isHeld (p .state) ≡ false → Not (p .message .why ≡ noReason)
   pub held : isHeld (p .state) ≡ true → Holds es t byte p named
 
@@ -123,7 +123,7 @@ module _ (es : Log) (e : Event) (t : Talk) (p : Phase) (named : ℕ) (same : hea
     hasty = o .hasty;
     astray = o .astray;
     fresh = λ n. o .fresh (sym (ap length same) ∙ n);
-    reasoned = λ x y bs. ap (λ (l : List Event). talkReason (t .kb1) (drop named l ++ bs)) (same-events es e same) ∙ o .reasoned x y bs;
+    reasoned = λ x y bs. ap (λ (l : List Event). talkReason (t .pair) (drop named l ++ bs)) (same-events es e same) ∙ o .reasoned x y bs;
     against = o .against;
     held = λ h. holds-more (o .byte) f (o .held h);
   }
@@ -155,30 +155,30 @@ never-starting Damage c s = false≢true s
 
 -- ---- what is shown of a report of an event
 -- among these reports of an event from this side is a frame from the unit that answers a stop
-pub record Answers (kb1 kb2 : ℕ) (fs : Frames) (side : Side) (heard : List ℕ) (rs : List Report) : Type 0 where
+pub record Answers (pair : Pair) (fs : Frames) (side : Side) (heard : List ℕ) (rs : List Report) : Type 0 where
   pub report : Report
   pub made : Among report rs
   pub number : report .number ≡ frameReport
   pub unit : side ≡ Unit
-  pub stop : stops (pendingIn kb1 kb2 fs) (dataOf kb1 kb2 (namedBy heard report)) ≡ true
+  pub stop : stops (pendingIn pair fs) (dataOf (pair .kb1) (pair .kb2) (namedBy heard report)) ≡ true
 
 -- a report of the event e behind es, in a session with these key bytes and these frames; `all` are the event's reports
-pub record Shows (es : Log) (e : Event) (kb1 kb2 : ℕ) (fs : Frames) (all : List Report) (x : Report) : Type 0 where
-  pub reads : x .number ≡ frameReport → readOf kb1 kb2 (namedBy (heardIn (es ▷ e)) x) .no ≡ taken
+pub record Shows (es : Log) (e : Event) (pair : Pair) (fs : Frames) (all : List Report) (x : Report) : Type 0 where
+  pub reads : x .number ≡ frameReport → isFrame pair (namedBy (heardIn (es ▷ e)) x) ≡ true
   pub spoken : x .number ≡ frameReport → Finishes es e (namedBy (heardIn (es ▷ e)) x)
   pub turns : (x .number ≡ frameReport) ⊎ (x .number ≡ damageReport) → Turned (es ▷ e) x
-  pub answers : x .number ≡ downReport → x .reason ≡ stopped → Answers kb1 kb2 fs (e .side) (heardIn (es ▷ e)) all
-  pub stops : x .number ≡ frameReport → e .side ≡ Unit → stops (pendingIn kb1 kb2 fs) (dataOf kb1 kb2 (namedBy (heardIn (es ▷ e)) x)) ≡ true
+  pub answers : x .number ≡ downReport → x .reason ≡ stopped → Answers pair fs (e .side) (heardIn (es ▷ e)) all
+  pub stops : x .number ≡ frameReport → e .side ≡ Unit → stops (pendingIn pair fs) (dataOf (pair .kb1) (pair .kb2) (namedBy (heardIn (es ▷ e)) x)) ≡ true
       → Tells downReport stopped all
 
 -- a talk with this reply
 abbrev pub withReply : Talk → Reply → Talk
-withReply t reply = record { kb1 = t .kb1; kb2 = t .kb2; frames = t .frames; reply = reply }
+withReply t reply = record { pair = t .pair; frames = t .frames; reply = reply }
 
 -- ---- the reports of an event e behind es, move by move
 module _ (es : Log) (e : Event) (all : List Report) where
   abbrev pub Told : Talk → Report → Type 0
-  Told t x = Shows es e (t .kb1) (t .kb2) (t .frames) all x
+  Told t x = Shows es e (t .pair) (t .frames) all x
 
   abbrev pub talked : Talk → List Report → Talk
   talked t rs = talkAfter t (takenOf (es ▷ e)) rs
@@ -212,7 +212,7 @@ module _ (es : Log) (e : Event) (all : List Report) where
   settled-at t p named named′ heard a q =
       let f = a .fits in
       record {
-        fits = record { connected = refl; good = f .good; kb1 = f .kb1; kb2 = f .kb2; windows = f .windows; reply = refl; kept = f .kept };
+        fits = record { connected = refl; good = f .good; pair = f .pair; windows = f .windows; reply = refl; kept = f .kept };
         bytes = a .bytes;
         calm = λ _. q;
         opened = λ o. absurd (false≢true o);

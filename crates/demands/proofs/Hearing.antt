@@ -20,7 +20,8 @@ use Rattle.units.specs.Units.{gapOf}
 use Rattle.units.specs.declared.Micros.{Micros}
 use Rattle.timing.specs.Timing.{setOf, decodedOf}
 use Rattle.timing.specs.declared.Windows.{Windows}
-use Rattle.frame.specs.Read.{readOf, dataOf}
+use Rattle.keys.specs.declared.Pair.{Pair}
+use Rattle.frame.specs.Read.{dataOf}
 use Rattle.events.specs.Events.{isTester, isNobody, sameSide}
 use Rattle.events.specs.declared.Kind.the-variants.{Byte}
 use Rattle.events.specs.declared.Side.{Side}
@@ -35,7 +36,6 @@ use Rattle.talk.specs.declared.Request.{Request}
 use Rattle.talk.specs.declared.Request.the-variants.{Ordinary, Stop, OwnTiming, NewTiming}
 use Rattle.talk.specs.declared.Message.{Message}
 use Rattle.talk.specs.Messages.{endsIn, isMessage}
-use Rattle.talk.proofs.Frames.{message-reads}
 use Rattle.phases.specs.Phases.{isQuiet, isHeld, isOpen, isConnected, down, talking, holding, damaged, timed, asked, answered, framed}
 use Rattle.phases.specs.declared.State.{State}
 use Rattle.phases.specs.declared.State.the-variants.{Down, Starting, Quiet, Held, Damage}
@@ -48,11 +48,12 @@ use Rattle.reports.specs.declared.Run.{Run}
 use Rattle.link.specs.Handling.{hearing, byteHeard}
 use Rattle.link.specs.Telling.{tells, byteTells}
 use Rattle.demands.specs.Logs.{Log, _▷_, markOf, bytesOf, heardIn, numberAfter, takenOf, whole, more}
+use Rattle.demands.specs.Editions.{isFrame}
 use Rattle.demands.specs.Histories.{after, isAmong, Among, first, later, Tells}
 use Rattle.demands.specs.Accounts.{namedBy, bytesNamed}
 use Rattle.demands.specs.Sessions.{Frame, Frames, _▸_, stops, resets, retimes, codesIn, pendingIn, windowsIn, Talk, afterReport}
 use Rattle.demands.specs.Sessions.{lastSide, frameNamed, talkAfter, Session, inForce, gapBefore, Stray, Early}
-use Rattle.demands.proofs.Carrying.{Carries, Kept, begun as gone-none, on, gone-by, gone-ends, ends-now, kept-asked, message-carries}
+use Rattle.demands.proofs.Carrying.{Carries, Kept, begun as gone-none, on, gone-by, gone-ends, ends-now, kept-asked, message-carries, message-frame}
 use Rattle.demands.proofs.Carrying.{reply-windows, reply-request, reply-stops}
 use Rattle.demands.specs.Messages.{InTime}
 use Rattle.demands.proofs.Gathering.{talkBehind, talkReason, same-length, byte-events, head-wrong, head-right, later-wrong, later-right}
@@ -110,30 +111,30 @@ request-not m =
     (λ _. by-test (λ (q : Request). isStopped q ≡ false) (asksCodes m) {x = NewTiming} {y = Ordinary} (λ _. refl) (λ _. refl)))
 
 -- a frame more: what is pending, and the windows in force
-windows-asked : (kb1 kb2 : ℕ) (fs : Frames) (f : Frame) → isTester (f .side) ≡ true → windowsIn kb1 kb2 (fs ▸ f) ≡ windowsIn kb1 kb2 fs
+windows-asked : (pair : Pair) (fs : Frames) (f : Frame) → isTester (f .side) ≡ true → windowsIn pair (fs ▸ f) ≡ windowsIn pair fs
 unfolding windowsIn
-windows-asked kb1 kb2 fs f c = rw c
+windows-asked pair fs f c = rw c
 
-pending-asked : (kb1 kb2 : ℕ) (fs : Frames) (f : Frame) → isTester (f .side) ≡ true → pendingIn kb1 kb2 (fs ▸ f) ≡ dataOf kb1 kb2 (f .bytes)
+pending-asked : (pair : Pair) (fs : Frames) (f : Frame) → isTester (f .side) ≡ true → pendingIn pair (fs ▸ f) ≡ dataOf (pair .kb1) (pair .kb2) (f .bytes)
 unfolding pendingIn
-pending-asked kb1 kb2 fs f c = rw c
+pending-asked pair fs f c = rw c
 
-abbrev replyWindows : ℕ → Windows → List ℕ → List ℕ → Windows
-replyWindows kb1 w q a = if resets q a then setOf kb1 else if retimes q a then ifAllowed (decodedOf (codesIn q)) w else w
+abbrev replyWindows : Pair → Windows → List ℕ → List ℕ → Windows
+replyWindows pair w q a = if resets q a then setOf pair else if retimes q a then ifAllowed (decodedOf (codesIn q)) w else w
 
 abbrev pendingBy : List ℕ → List ℕ → List ℕ
 pendingBy q a = if stops q a || resets q a || retimes q a then [] else q
 
-windows-answered : (kb1 kb2 : ℕ) (fs : Frames) (f : Frame) → isTester (f .side) ≡ false
-    → windowsIn kb1 kb2 (fs ▸ f) ≡ replyWindows kb1 (windowsIn kb1 kb2 fs) (pendingIn kb1 kb2 fs) (dataOf kb1 kb2 (f .bytes))
+windows-answered : (pair : Pair) (fs : Frames) (f : Frame) → isTester (f .side) ≡ false
+    → windowsIn pair (fs ▸ f) ≡ replyWindows pair (windowsIn pair fs) (pendingIn pair fs) (dataOf (pair .kb1) (pair .kb2) (f .bytes))
 unfolding windowsIn
-windows-answered kb1 kb2 fs f c = rw c
+windows-answered pair fs f c = rw c
 
-pending-answered : (kb1 kb2 : ℕ) (fs : Frames) (f : Frame) → isTester (f .side) ≡ false
-    → pendingIn kb1 kb2 (fs ▸ f)
-    ≡ pendingBy (pendingIn kb1 kb2 fs) (dataOf kb1 kb2 (f .bytes))
+pending-answered : (pair : Pair) (fs : Frames) (f : Frame) → isTester (f .side) ≡ false
+    → pendingIn pair (fs ▸ f)
+    ≡ pendingBy (pendingIn pair fs) (dataOf (pair .kb1) (pair .kb2) (f .bytes))
 unfolding pendingIn
-pending-answered kb1 kb2 fs f c = rw c
+pending-answered pair fs f c = rw c
 
 -- whose the last of bytes is
 side-last : (l : List Event) (e : Event) → lastSide (l ++ (e ∷ [])) ≡ e .side
@@ -182,18 +183,18 @@ module _ (es : Log) (e : Event) (all : List Report) (kind : e .kind ≡ Byte) (n
     abbrev reason : ℕ
     reason = reasonAtFirst p (e .side) (e .value) (gapOf mark (e .start))
 
-    reason-is : reason ≡ firstReason (p .start .kb1) (t .reply) (inForce t) (e .side) (e .value) (gapBefore (takenOf es) e)
+    reason-is : reason ≡ firstReason (p .start .pair) (t .reply) (inForce t) (e .side) (e .value) (gapBefore (takenOf es) e)
     unfolding reasonAtFirst
-    reason-is i = firstReason (p .start .kb1) (a .fits .reply i) (a .fits .windows i) (e .side) (e .value) (gapOf (mark-is i) (e .start))
+    reason-is i = firstReason (p .start .pair) (a .fits .reply i) (a .fits .windows i) (e .side) (e .value) (gapOf (mark-is i) (e .start))
 
-    reason-by : reason ≡ firstReason (t .kb1) (t .reply) (inForce t) (e .side) (e .value) (gapBefore (takenOf es) e)
-    reason-by = reason-is ∙ ap (λ (k : ℕ). firstReason k (t .reply) (inForce t) (e .side) (e .value) (gapBefore (takenOf es) e)) (a .fits .kb1)
+    reason-by : reason ≡ firstReason (t .pair) (t .reply) (inForce t) (e .side) (e .value) (gapBefore (takenOf es) e)
+    reason-by = reason-is ∙ ap (λ (k : Pair). firstReason k (t .reply) (inForce t) (e .side) (e .value) (gapBefore (takenOf es) e)) (a .fits .pair)
 
     reason-early : (k : ℕ) → k ≡ reason → (k ≡ early) ↔ Early t (t .reply) (gapBefore (takenOf es) e) e
-    reason-early k q = rw (q ∙ reason-is) (first-early t (gapBefore (takenOf es) e) e sided (p .start .kb1))
+    reason-early k q = rw (q ∙ reason-is) (first-early t (gapBefore (takenOf es) e) e sided (p .start .pair))
 
     reason-stray : (k : ℕ) → k ≡ reason → (k ≡ stray) ↔ Stray t (t .reply) (gapBefore (takenOf es) e) e
-    reason-stray k q = rw (q ∙ reason-is) (first-stray t (gapBefore (takenOf es) e) e sided (p .start .kb1))
+    reason-stray k q = rw (q ∙ reason-is) (first-stray t (gapBefore (takenOf es) e) e sided (p .start .pair))
 
     named-is : length (heardIn es) ≡ named
     named-is = sym (a .bytes) ∙ sym (a .calm quiet)
@@ -212,7 +213,7 @@ module _ (es : Log) (e : Event) (all : List Report) (kind : e .kind ≡ Byte) (n
     first-held z =
         let f = a .fits in
         record {
-          fits = record { connected = refl; good = f .good; kb1 = f .kb1; kb2 = f .kb2; windows = f .windows; reply = f .reply; kept = f .kept };
+          fits = record { connected = refl; good = f .good; pair = f .pair; windows = f .windows; reply = f .reply; kept = f .kept };
           bytes = heard-more heard (a .bytes);
           calm = λ q. absurd (false≢true q);
           opened = λ _. record {
@@ -225,14 +226,14 @@ module _ (es : Log) (e : Event) (all : List Report) (kind : e .kind ≡ Byte) (n
             astray = reason-stray noReason (sym z);
             fresh = λ _ _. refl;
             reasoned = λ _ _ bs.
-                ap (talkReason (t .kb1)) (first-event bs) ∙ head-right (t .kb1) e bs (first-head (t .kb1) (t .reply) (inForce t) (e .side) (e .value)
+                ap (talkReason (t .pair)) (first-event bs) ∙ head-right (t .pair) e bs (first-head (t .pair) (t .reply) (inForce t) (e .side) (e .value)
                 (gapBefore (takenOf es) e) (sym reason-by ∙ z));
             against = λ h. absurd (false≢true (sym h));
             held = λ _. record {
               head = e .value;
               rest = [];
               bytes = ap (drop named) one-more ∙ drop-at (heardIn es) (e .value ∷ []) named named-is;
-              right = first-head (p .start .kb1) (p .reply) (p .windows) (e .side) (e .value) (gapOf mark (e .start)) z;
+              right = first-head (p .start .pair) (p .reply) (p .windows) (e .side) (e .value) (gapOf mark (e .start)) z;
               gone = gone-none;
               whose = refl;
               spoken = begins (record {
@@ -249,7 +250,7 @@ module _ (es : Log) (e : Event) (all : List Report) (kind : e .kind ≡ Byte) (n
     first-damaged n =
         let f = a .fits in
         record {
-          fits = record { connected = refl; good = f .good; kb1 = f .kb1; kb2 = f .kb2; windows = f .windows; reply = f .reply; kept = f .kept };
+          fits = record { connected = refl; good = f .good; pair = f .pair; windows = f .windows; reply = f .reply; kept = f .kept };
           bytes = heard-more heard (a .bytes);
           calm = λ q. absurd (false≢true q);
           opened = λ _. record {
@@ -262,8 +263,8 @@ module _ (es : Log) (e : Event) (all : List Report) (kind : e .kind ≡ Byte) (n
             astray = reason-stray reason refl;
             fresh = λ _ z. absurd (n (reason-by ∙ z));
             reasoned = λ x y bs.
-                let q = reason-by ∙ first-else t (gapBefore (takenOf es) e) e sided (t .kb1) x y in
-                ap (talkReason (t .kb1)) (first-event bs) ∙ head-wrong (t .kb1) e bs (λ z. n (q ∙ z)) ∙ sym q;
+                let q = reason-by ∙ first-else t (gapBefore (takenOf es) e) e sided (t .pair) x y in
+                ap (talkReason (t .pair)) (first-event bs) ∙ head-wrong (t .pair) e bs (λ z. n (q ∙ z)) ∙ sym q;
             against = λ _. n;
             held = λ h. absurd (false≢true h);
           };
@@ -319,8 +320,8 @@ module _ (es : Log) (e : Event) (all : List Report) (kind : e .kind ≡ Byte) (n
         let index = o .index in
         absurd (omega arith);
     reasoned = λ x y bs.
-        ap (λ (l : List Event). talkReason (t .kb1) (l ++ bs)) (one-event t p named o)
-        ∙ ap (talkReason (t .kb1)) (append-assoc (drop named (bytesOf (takenOf es))) (e ∷ []) bs)
+        ap (λ (l : List Event). talkReason (t .pair) (l ++ bs)) (one-event t p named o)
+        ∙ ap (talkReason (t .pair)) (append-assoc (drop named (bytesOf (takenOf es))) (e ∷ []) bs)
         ∙ o .reasoned x y (e ∷ bs) ∙ k bs;
     against = n;
     held = h;
@@ -360,7 +361,7 @@ module _ (es : Log) (e : Event) (all : List Report) (kind : e .kind ≡ Byte) (n
         let f = a .fits in
         let x = later-elsewhere (r .phase .message) (e .side) (e .value) in
         record {
-          fits = record { connected = refl; good = f .good; kb1 = f .kb1; kb2 = f .kb2; windows = f .windows; reply = f .reply; kept = f .kept };
+          fits = record { connected = refl; good = f .good; pair = f .pair; windows = f .windows; reply = f .reply; kept = f .kept };
           bytes = heard-more (r .heard) (a .bytes);
           calm = λ q. absurd (false≢true q);
           opened = λ _. still-open t (r .phase) (damaged (r .phase) wrong) (r .named) o
@@ -381,8 +382,8 @@ module _ (es : Log) (e : Event) (all : List Report) (kind : e .kind ≡ Byte) (n
         ∙ drop-append-le (r .named) (heardIn es) (e .value ∷ []) (within (r .named) (heardIn es) (held .head) (held .rest) (held .bytes))
         ∙ ap (λ (l : List ℕ). l ++ (e .value ∷ [])) (held .bytes)
 
-    right-head : eqb (headReason (t .kb1) (held .head)) noReason ≡ true
-    right-head = eq-eqb (headReason (t .kb1) (held .head)) noReason (sym (ap (λ (k : ℕ). headReason k (held .head)) (a .fits .kb1)) ∙ held .right)
+    right-head : eqb (headReason (t .pair .kb1) (held .head)) noReason ≡ true
+    right-head = eq-eqb (headReason (t .pair .kb1) (held .head)) noReason (sym (ap (λ (k : Pair). headReason (k .kb1) (held .head)) (a .fits .pair)) ∙ held .right)
 
     side-is : wrong ≡ noReason → e .side ≡ o .byte .side
     side-is w = later-side (r .phase .message) (e .side) (e .value) w ∙ held .whose
@@ -394,10 +395,10 @@ module _ (es : Log) (e : Event) (all : List Report) (kind : e .kind ≡ Byte) (n
     front-byte : Bytes (held .head ∷ held .rest)
     front-byte i = subst (λ (l : List ℕ). getD l i 0 < 256) (held .bytes) (rw (getD-drop (r .named) (heardIn es) i 0) (before-byte (r .named + i)))
 
-    not-yet : readOf (t .kb1) (t .kb2) (held .head ∷ held .rest) .no ≡ taken → ⊥
+    not-yet : isFrame (t .pair) (held .head ∷ held .rest) ≡ true → ⊥
     not-yet q =
         let side = o .byte .side in
-        let m = message-reads (t .kb1) (t .kb2) side (held .head ∷ held .rest) (a .fits .good) front-byte ∙ eq-eqb _ taken q in
+        let m = message-frame (t .pair) side (held .head ∷ held .rest) (a .fits .good) front-byte ∙ q in
         let k = ap (endsIn side (begun side (held .head))) (sym (append-nil (held .rest)))
         ∙ gone-ends side (begun side (held .head)) (r .phase .message) (held .rest) [] (held .gone) in
         false≢true (sym (rw (right-head) k) ∙ m)
@@ -411,7 +412,7 @@ module _ (es : Log) (e : Event) (all : List Report) (kind : e .kind ≡ Byte) (n
     later-held w n =
         let f = a .fits in
         record {
-          fits = record { connected = refl; good = f .good; kb1 = f .kb1; kb2 = f .kb2; windows = f .windows; reply = f .reply; kept = f .kept };
+          fits = record { connected = refl; good = f .good; pair = f .pair; windows = f .windows; reply = f .reply; kept = f .kept };
           bytes = heard-more (r .heard) (a .bytes);
           calm = λ q. absurd (false≢true q);
           opened = λ _. still-open t (r .phase) (holding (r .phase) (grown (r .phase .message) (e .value))) (r .named) o
@@ -437,7 +438,7 @@ module _ (es : Log) (e : Event) (all : List Report) (kind : e .kind ≡ Byte) (n
       framedBytes = namedBy (heardIn (es ▷ e)) x
 
       abbrev latest : List ℕ
-      latest = pendingIn (t .kb1) (t .kb2) (t .frames)
+      latest = pendingIn (t .pair) (t .frames)
 
       -- it names the message's bytes
       names : framedBytes ≡ slice
@@ -466,30 +467,27 @@ module _ (es : Log) (e : Event) (all : List Report) (kind : e .kind ≡ Byte) (n
       slice-byte i = subst (λ (l : List ℕ). getD l i 0 < 256) slice-is (rw (getD-drop (r .named) (heardIn (es ▷ e)) i 0) (byte (r .named + i)))
 
       -- they are a message that ends here, so `read` takes them
-      message : isMessage (t .kb1) (o .byte .side) slice ≡ true
+      message : isMessage (t .pair .kb1) (o .byte .side) slice ≡ true
       message =
           rw right-head
           (gone-ends (o .byte .side) (begun (o .byte .side) (held .head)) (r .phase .message) (held .rest) (e .value ∷ []) (held .gone)
           ∙ ends-now (o .byte .side) (r .phase .message) (e .value) (right-is w) last)
 
-      reads : readOf (t .kb1) (t .kb2) framedBytes .no ≡ taken
+      reads : isFrame (t .pair) framedBytes ≡ true
       reads =
-          ap (λ (l : List ℕ). readOf (t .kb1) (t .kb2) l .no) names
-          ∙ eqb-true (readOf (t .kb1) (t .kb2) slice .no) taken
-          (sym (message-reads (t .kb1) (t .kb2) (o .byte .side) slice (a .fits .good) slice-byte) ∙ message)
+          ap (isFrame (t .pair)) names ∙ sym (message-frame (t .pair) (o .byte .side) slice (a .fits .good) slice-byte) ∙ message
 
-      carries : Carries (r .phase .message) (dataOf (t .kb1) (t .kb2) framedBytes)
+      carries : Carries (r .phase .message) (dataOf (t .pair .kb1) (t .pair .kb2) framedBytes)
       carries =
-          let c = message-carries (t .kb1) (t .kb2) (o .byte .side) (held .head) (held .rest) (e .value) (a .fits .good) slice-byte message in
-          let d = subst (λ (m : Message). Carries m (dataOf (t .kb1) (t .kb2) slice))
+          let c = message-carries (t .pair .kb1) (t .pair .kb2) (o .byte .side) (held .head) (held .rest) (e .value) (a .fits .good) slice-byte message in
+          let d = subst (λ (m : Message). Carries m (dataOf (t .pair .kb1) (t .pair .kb2) slice))
           (sym (gone-by (o .byte .side) (begun (o .byte .side) (held .head)) (r .phase .message) (held .rest) (held .gone))) c in
-          subst (λ (l : List ℕ). Carries (r .phase .message) (dataOf (t .kb1) (t .kb2) l)) (sym names) d
+          subst (λ (l : List ℕ). Carries (r .phase .message) (dataOf (t .pair .kb1) (t .pair .kb2) l)) (sym names) d
 
       -- the talk with this frame
       abbrev withFrame : Talk
       withFrame = record {
-        kb1 = t .kb1;
-        kb2 = t .kb2;
+        pair = t .pair;
         frames = t .frames ▸ fr;
         reply = if isTester (fr .side) then First else Further;
       }
@@ -498,40 +496,38 @@ module _ (es : Log) (e : Event) (all : List Report) (kind : e .kind ≡ Byte) (n
       unfolding asked timed talking isConnected
       asked-fits c =
           let f = a .fits in
-          let d = dataOf (t .kb1) (t .kb2) framedBytes in
+          let d = dataOf (t .pair .kb1) (t .pair .kb2) framedBytes in
           record {
             connected = refl;
             good = f .good;
-            kb1 = f .kb1;
-            kb2 = f .kb2;
-            windows = f .windows ∙ sym (windows-asked (t .kb1) (t .kb2) (t .frames) fr c);
+            pair = f .pair;
+            windows = f .windows ∙ sym (windows-asked (t .pair) (t .frames) fr c);
             reply = rw c refl;
-            kept = subst (Kept (requestOf (r .phase .message)) (r .phase .message .seven)) (sym (pending-asked (t .kb1) (t .kb2) (t .frames) fr c))
+            kept = subst (Kept (requestOf (r .phase .message)) (r .phase .message .seven)) (sym (pending-asked (t .pair) (t .frames) fr c))
                 (kept-asked (r .phase .message) d carries);
           }
 
-      answered-fits : isTester (fr .side) ≡ false → stops latest (dataOf (t .kb1) (t .kb2) framedBytes) ≡ false → Fits withFrame (answered (r .phase))
+      answered-fits : isTester (fr .side) ≡ false → stops latest (dataOf (t .pair .kb1) (t .pair .kb2) framedBytes) ≡ false → Fits withFrame (answered (r .phase))
       unfolding answered timed talking isConnected
       answered-fits c z =
           let f = a .fits in
           let p = r .phase in
-          let d = dataOf (t .kb1) (t .kb2) framedBytes in
+          let d = dataOf (t .pair .kb1) (t .pair .kb2) framedBytes in
           record {
             connected = refl;
             good = f .good;
-            kb1 = f .kb1;
-            kb2 = f .kb2;
-            windows = reply-windows (p .request) (p .asked) (p .start .kb1) latest d (p .message) (p .windows) (f .kept) carries
-                ∙ ap₂ (λ (k : ℕ) (v : Windows). replyWindows k v latest d) (f .kb1) (f .windows)
-                ∙ sym (windows-answered (t .kb1) (t .kb2) (t .frames) fr c);
+            pair = f .pair;
+            windows = reply-windows (p .request) (p .asked) (p .start .pair) latest d (p .message) (p .windows) (f .kept) carries
+                ∙ ap₂ (λ (k : Pair) (v : Windows). replyWindows k v latest d) (f .pair) (f .windows)
+                ∙ sym (windows-answered (t .pair) (t .frames) fr c);
             reply = rw c refl;
-            kept = subst (Kept (requestAfter (p .request) (p .message)) (p .asked)) (sym (pending-answered (t .kb1) (t .kb2) (t .frames) fr c))
+            kept = subst (Kept (requestAfter (p .request) (p .message)) (p .asked)) (sym (pending-answered (t .pair) (t .frames) fr c))
                 (reply-request (p .request) (p .asked) latest d (p .message) (f .kept) carries z);
           }
 
       -- what is shown of its report
       abbrev Stops : Type 0
-      Stops = stops latest (dataOf (t .kb1) (t .kb2) framedBytes) ≡ true
+      Stops = stops latest (dataOf (t .pair .kb1) (t .pair .kb2) framedBytes) ≡ true
 
       frame-told : (e .side ≡ Unit → Stops → Tells downReport stopped all) → Told es e all t x
       unfolding reportOf namesBytes
@@ -630,7 +626,7 @@ module _ (es : Log) (e : Event) (all : List Report) (kind : e .kind ≡ Byte) (n
       unfolding answered timed talking
       frame-answered c =
           let p = r .phase in
-          let d = dataOf (t .kb1) (t .kb2) framedBytes in
+          let d = dataOf (t .pair .kb1) (t .pair .kb2) framedBytes in
           let k = reply-stops (p .request) (p .asked) latest d (p .message) (a .fits .kept) carries in
           frame-by (answered p) refl (λ s. (unit-side (e .side) c sided, sym k ∙ s))
           (λ s. (answered-fits (ap isTester whose ∙ c) (sym k ∙ s), λ _ z. false≢true (sym s ∙ (k ∙ z))))

@@ -14,6 +14,8 @@ use Rattle.base.specs.Numbers.{taken}
 use Rattle.base.specs.Reports.{connectedReport, noReason}
 use Rattle.events.specs.Events.{isByte}
 use Rattle.events.specs.declared.Kind.the-variants.{WakeUp}
+use Rattle.keys.specs.Keys.{pairOf}
+use Rattle.keys.specs.declared.Pair.{Pair}
 use Rattle.events.specs.declared.Event.{Event}
 use Rattle.reports.specs.declared.Report.{Report}
 use Rattle.demands.specs.Logs.{Log, none, _▷_, heardOf, heardIn, numberAfter, takenOf}
@@ -49,11 +51,11 @@ since-bytes (tick k s) = since-bytes s
 since-bytes (byte {e = e} k s) = rw (ap isByte k) (ap (λ (l : List ℕ). l ++ (e .value ∷ [])) (since-bytes s))
 
 -- the key bytes among them: of a slow start, ..
-record KeysAre (kb1 kb2 : ℕ) (bytes : List ℕ) : Type 0 where
-  one : firstKey bytes ≡ kb1
-  two : secondKey bytes ≡ kb2
+record KeysAre (pair : Pair) (bytes : List ℕ) : Type 0 where
+  one : firstKey bytes ≡ pair .kb1
+  two : secondKey bytes ≡ pair .kb2
 
-slow-keys : {a : Event} {kb1 kb2 : ℕ} {bs : Log} → SlowStart a kb1 kb2 bs → KeysAre kb1 kb2 (valuesIn bs)
+slow-keys : {a : Event} {pair : Pair} {bs : Log} → SlowStart a pair bs → KeysAre pair (valuesIn bs)
 unfolding firstKey secondKey firstKeyAt valuesIn
 slow-keys (slow k s o t b d) = record { one = refl; two = refl }
 
@@ -64,7 +66,7 @@ key-place v s o t x h =
     let n = length-append v (s ∷ o ∷ t ∷ x ∷ []) in
     rw (ne-eqb (length (v ++ (s ∷ o ∷ t ∷ x ∷ []))) 5 (λ z. omega (arith, n))) (omega (arith, n))
 
-last-four : (v : List ℕ) (s o t x : ℕ) → 2 ≤ length v → KeysAre o t (v ++ (s ∷ o ∷ t ∷ x ∷ []))
+last-four : (v : List ℕ) (s o t x : ℕ) → 2 ≤ length v → KeysAre (pairOf o t) (v ++ (s ∷ o ∷ t ∷ x ∷ []))
 unfolding firstKey secondKey
 last-four v s o t x h =
     let ys = s ∷ o ∷ t ∷ x ∷ [] in
@@ -85,7 +87,7 @@ headed (plain-long (request k l f t s d c) a v x) = record { long = omega arith;
 headed (addressed (request k l f t s d c) a v x y) = record { long = omega arith; wakes = k }
 headed (addressed-long (request k l f t s d c) a v x y z) = record { long = omega arith; wakes = k }
 
-fast-keys : {w : Event} {kb1 kb2 : ℕ} {bs : Log} → FastStart w kb1 kb2 bs → KeysAre kb1 kb2 (valuesIn bs)
+fast-keys : {w : Event} {pair : Pair} {bs : Log} → FastStart w pair bs → KeysAre pair (valuesIn bs)
 unfolding valuesIn
 fast-keys (fast {bs = bs} {service = s} {one = o} {two = t} {sum = x} h d e f g) =
     let v = valuesIn bs in
@@ -95,7 +97,7 @@ fast-keys (fast {bs = bs} {service = s} {one = o} {two = t} {sum = x} h d e f g)
     rw same (last-four v (s .value) (o .value) (t .value) (x .value) (headed h .long))
 
 -- it begins with an address or wake-up
-pub starter : {a : Event} {kb1 kb2 : ℕ} {bs : Log} → SlowStart a kb1 kb2 bs ⊎ FastStart a kb1 kb2 bs → Starter a
+pub starter : {a : Event} {pair : Pair} {bs : Log} → SlowStart a pair bs ⊎ FastStart a pair bs → Starter a
 starter (inl (slow k s o t b d)) = inl k
 starter (inr (fast h d e f g)) = inr (headed h .wakes)
 
@@ -104,7 +106,7 @@ unfolding isByte
 not-byte a (inl k) = ap isByte k
 not-byte a (inr k) = ap isByte k
 
-start-keys : {a : Event} {kb1 kb2 : ℕ} {bs : Log} → SlowStart a kb1 kb2 bs ⊎ FastStart a kb1 kb2 bs → KeysAre kb1 kb2 (valuesIn bs)
+start-keys : {a : Event} {pair : Pair} {bs : Log} → SlowStart a pair bs ⊎ FastStart a pair bs → KeysAre pair (valuesIn bs)
 start-keys (inl s) = slow-keys s
 start-keys (inr s) = fast-keys s
 
@@ -131,18 +133,18 @@ third-names es e q c =
     (take-all (length (heardOf (c .bytes)) + 1) v (omega (arith, length-append (valuesIn (c .bytes)) (e .value ∷ []), ap length (since-bytes (c .since)))))
 
 keyed : (es : Log) (e : Event) (r : Report) → numberAfter (takenOf es) e ≡ taken → (c : Connects (takenOf es) e) → r ≡ third (takenOf es) e c
-    → openedBy (namedBy (heardIn (es ▷ e)) r) ≡ opening (c .kb1) (c .kb2)
+    → openedBy (namedBy (heardIn (es ▷ e)) r) ≡ opening (c .pair)
 keyed es e r q c p =
     let k = start-keys (c .good) in
     let n = ap (namedBy (heardIn (es ▷ e))) p ∙ third-names es e q c in
-    ap₂ opening (ap firstKey n ∙ k .one) (ap secondKey n ∙ k .two)
+    ap₂ (λ (a b : ℕ). opening (pairOf a b)) (ap firstKey n ∙ k .one) (ap secondKey n ∙ k .two)
 
 -- ---- A REPORT 3, of a link that makes it exactly where an initialization is completed, alone, of all of its bytes
 pub record OpenedBy (es : Log) (e : Event) (r : Report) : Type 0 where
   pub number : numberAfter (takenOf es) e ≡ taken
   pub connects : Connects (takenOf es) e
   pub only : r ≡ third (takenOf es) e connects
-  pub same : openedBy (namedBy (heardIn (es ▷ e)) r) ≡ opening (connects .kb1) (connects .kb2)
+  pub same : openedBy (namedBy (heardIn (es ▷ e)) r) ≡ opening (connects .pair)
 
 module _ (m : Machine)
     (exactly : (es : Log) (e : Event) → Says connectedReport (reportsTo m es e) ↔ ((numberAfter (takenOf es) e ≡ taken) × Connects (takenOf es) e))

@@ -124,7 +124,7 @@ handled-names : (l : Link) (log : Log) (e : Event) → Behind l log e → Inv l 
 unfolding takenBy linkAfter told connected starting
 handled-names l log e t inv h few n c =
     let m = markOf (c .before) in
-    let d = done-of m (c .start) (c .kb1) (c .kb2) (c .bytes) e (c .idle) (c .good) in
+    let d = done-of m (c .start) (c .pair) (c .bytes) e (c .idle) (c .good) in
     let f = completes-of l log e t inv (ended-by log e c) in
     let run = completes-run l e (f .0) in
     let o = open-early (phaseOn (c .start) (c .bytes)) (lastEnd (c .start) (c .bytes)) (l .clock) (e .start) (t .later) (d .0 .1 .window) in
@@ -138,11 +138,10 @@ handled-names l log e t inv h few n c =
       answer = record {
         reports =
             ap (λ (x : Run). listed (x .reports)) run ∙ run-reports l e (l .phase .start) ∙ ap₂ (λ (a b : ℕ). (reportBy a b (e .end) ∷ [])) named bytes;
-        good = d .3;
+        good = d .2;
       };
       state = ap (λ (p : Phase). p .state) phase;
-      kb1 = ap (λ (p : Phase). p .start .kb1) phase ∙ d .1;
-      kb2 = ap (λ (p : Phase). p .start .kb2) phase ∙ d .2;
+      pair = ap (λ (p : Phase). p .start .pair) phase ∙ d .1;
       windows = ap (λ (p : Phase). p .windows) phase ∙ ap setOf (d .1);
       reply = ap (λ (p : Phase). p .reply) phase;
       request = ap (λ (p : Phase). p .request) phase;

@@ -365,7 +365,7 @@ stops-exactly es e t i s = (
   λ x.
       let f = x .ends in
       let r = frames-exactly es e (x .bytes) i .1 f in
-      let stop = ap (λ (l : List ℕ). stops (pendingIn (t .kb1) (t .kb2) (t .frames)) (dataOf (t .kb1) (t .kb2) l)) (r .names) ∙ x .stop in
+      let stop = ap (λ (l : List ℕ). stops (pendingIn (t .pair) (t .frames)) (dataOf (t .pair .kb1) (t .pair .kb2) l)) (r .names) ∙ x .stop in
       stops-behind es e t i s .1
       (record { report = r .report; made = r .made; number = r .number; unit = speaks-side (f .message) (f .kind) (f .number) ∙ x .unit; stop = stop }),
 )

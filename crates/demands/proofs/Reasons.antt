@@ -15,6 +15,7 @@ use Rattle.base.proofs.Tests.{or-split, by-test}
 use Rattle.units.specs.Units.{isEarlier}
 use Rattle.units.specs.declared.Micros.{Micros}
 use Rattle.keys.specs.Keys.{takesForm}
+use Rattle.keys.specs.declared.Pair.{Pair}
 use Rattle.timing.specs.Timing.{isPassed}
 use Rattle.timing.specs.declared.Windows.{Windows}
 use Rattle.frame.specs.Layout.{formatForm}
@@ -194,25 +195,25 @@ later-elsewhere m side v =
     by-test Elsewhere (not (sameSide side (m .side))) {x = otherSide} (λ _. (λ z. omega arith, λ z. omega arith)) (λ _. part-elsewhere (m .part) m v)
 
 -- THE REASON OF A FIRST BYTE is 3 exactly if it is early, and 4 exactly if it is stray
-module _ (t : Talk) (gap : Micros) (b : Event) (sided : isNobody (b .side) ≡ false) (kb1 : ℕ) where
+module _ (t : Talk) (gap : Micros) (b : Event) (sided : isNobody (b .side) ≡ false) (pair : Pair) where
   reason-by : (k : ℕ) (c : Bool) → eqb (turnReason (t .reply) (inForce t) (b .side) gap) noReason ≡ c → (noReason ≡ k → ⊥)
-      → (headReason kb1 (b .value) ≡ k → ⊥)
-      → ((if c then headReason kb1 (b .value) else turnReason (t .reply) (inForce t) (b .side) gap) ≡ k) ↔
+      → (headReason (pair .kb1) (b .value) ≡ k → ⊥)
+      → ((if c then headReason (pair .kb1) (b .value) else turnReason (t .reply) (inForce t) (b .side) gap) ≡ k) ↔
       (turnReason (t .reply) (inForce t) (b .side) gap ≡ k)
   reason-by k true c n h = (λ e. absurd (h e), λ e. absurd (n (sym (eqb-true _ noReason c) ∙ e)))
   reason-by k false c n h = (λ e. e, λ e. e)
 
-  pub first-early : (firstReason kb1 (t .reply) (inForce t) (b .side) (b .value) gap ≡ early) ↔ Early t (t .reply) gap b
+  pub first-early : (firstReason pair (t .reply) (inForce t) (b .side) (b .value) gap ≡ early) ↔ Early t (t .reply) gap b
   unfolding firstReason
   first-early =
-      let x = reason-by early _ refl (λ z. omega arith) (head-elsewhere kb1 (b .value) .0) in
+      let x = reason-by early _ refl (λ z. omega arith) (head-elsewhere (pair .kb1) (b .value) .0) in
       let y = turn-early-by t gap b (b .side) refl sided in
       (λ e. y .0 (x .0 e), λ e. x .1 (y .1 e))
 
-  pub first-stray : (firstReason kb1 (t .reply) (inForce t) (b .side) (b .value) gap ≡ stray) ↔ Stray t (t .reply) gap b
+  pub first-stray : (firstReason pair (t .reply) (inForce t) (b .side) (b .value) gap ≡ stray) ↔ Stray t (t .reply) gap b
   unfolding firstReason
   first-stray =
-      let x = reason-by stray _ refl (λ z. omega arith) (head-elsewhere kb1 (b .value) .1) in
+      let x = reason-by stray _ refl (λ z. omega arith) (head-elsewhere (pair .kb1) (b .value) .1) in
       let y = turn-stray-by t gap b (b .side) refl sided in
       (λ e. y .0 (x .0 e), λ e. x .1 (y .1 e))
 
@@ -232,26 +233,26 @@ turn-else reply w side gap f g = by-tests (isTester side) (isFirst reply || isEa
     by-tests false b false true f g = absurd (f refl)
     by-tests false b false false f g = refl
 
-pub first-else : (t : Talk) (gap : Micros) (b : Event) → isNobody (b .side) ≡ false → (kb1 : ℕ) → (Early t (t .reply) gap b → ⊥) → (Stray t (t .reply) gap b → ⊥)
-    → firstReason kb1 (t .reply) (inForce t) (b .side) (b .value) gap ≡ headReason kb1 (b .value)
+pub first-else : (t : Talk) (gap : Micros) (b : Event) → isNobody (b .side) ≡ false → (pair : Pair) → (Early t (t .reply) gap b → ⊥) → (Stray t (t .reply) gap b → ⊥)
+    → firstReason pair (t .reply) (inForce t) (b .side) (b .value) gap ≡ headReason (pair .kb1) (b .value)
 unfolding firstReason
-first-else t gap b sided kb1 f g =
+first-else t gap b sided pair f g =
     let z = turn-else (t .reply) (inForce t) (b .side) gap (λ q. f (turn-early-by t gap b (b .side) refl sided .0 q))
     (λ q. g (turn-stray-by t gap b (b .side) refl sided .0 q)) in
     rw (eq-eqb (turnReason (t .reply) (inForce t) (b .side) gap) noReason z) refl
 
-pub first-none : (t : Talk) (gap : Micros) (b : Event) → isNobody (b .side) ≡ false → (kb1 : ℕ) → (Early t (t .reply) gap b → ⊥) → (Stray t (t .reply) gap b → ⊥)
-    → headReason kb1 (b .value) ≡ noReason
-    → firstReason kb1 (t .reply) (inForce t) (b .side) (b .value) gap ≡ noReason
-first-none t gap b sided kb1 f g h = first-else t gap b sided kb1 f g ∙ h
+pub first-none : (t : Talk) (gap : Micros) (b : Event) → isNobody (b .side) ≡ false → (pair : Pair) → (Early t (t .reply) gap b → ⊥) → (Stray t (t .reply) gap b → ⊥)
+    → headReason (pair .kb1) (b .value) ≡ noReason
+    → firstReason pair (t .reply) (inForce t) (b .side) (b .value) gap ≡ noReason
+first-none t gap b sided pair f g h = first-else t gap b sided pair f g ∙ h
 
 -- where a first byte gets no reason, its head gets none
-pub first-head : (kb1 : ℕ) (reply : Reply) (w : Windows) (side : Side) (f : ℕ) (gap : Micros) → firstReason kb1 reply w side f gap ≡ noReason
-    → headReason kb1 f ≡ noReason
+pub first-head : (pair : Pair) (reply : Reply) (w : Windows) (side : Side) (f : ℕ) (gap : Micros) → firstReason pair reply w side f gap ≡ noReason
+    → headReason (pair .kb1) f ≡ noReason
 unfolding firstReason
-first-head kb1 reply w side f gap e = by-turn (eqb (turnReason reply w side gap) noReason) refl e
+first-head pair reply w side f gap e = by-turn (eqb (turnReason reply w side gap) noReason) refl e
   where
-    by-turn : (c : Bool) → eqb (turnReason reply w side gap) noReason ≡ c → (if c then headReason kb1 f else turnReason reply w side gap) ≡ noReason
-        → headReason kb1 f ≡ noReason
+    by-turn : (c : Bool) → eqb (turnReason reply w side gap) noReason ≡ c → (if c then headReason (pair .kb1) f else turnReason reply w side gap) ≡ noReason
+        → headReason (pair .kb1) f ≡ noReason
     by-turn true c e = e
     by-turn false c e = absurd (eqb-false _ noReason c e)

@@ -67,7 +67,7 @@ turns-behind es e r b i n =
 
 -- the link is stopped exactly by a unit frame that answers a stop, by its report (`stops-exactly` in `Opening`)
 pub stops-behind : (es : Log) (e : Event) (t : Talk) → InBytes (es ▷ e) → Session ours es t
-    → Tells downReport stopped (reportsTo ours es e) ↔ Answers (t .kb1) (t .kb2) (t .frames) (e .side) (heardIn (es ▷ e)) (reportsTo ours es e)
+    → Tells downReport stopped (reportsTo ours es e) ↔ Answers (t .pair) (t .frames) (e .side) (heardIn (es ▷ e)) (reportsTo ours es e)
 stops-behind es e t b s = (
   λ x. told-in es e t b s (x .report) (x .made) .answers (x .number-is) (x .reason-is),
   λ x. told-in es e t b s (x .report) (x .made) .stops (x .number) (x .unit) (x .stop),

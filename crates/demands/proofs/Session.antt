@@ -25,7 +25,7 @@ use Rattle.demands.specs.Beside.{IsIn}
 pub session-link : (es : Log) (t : Talk) → InBytes es → Session ours es t → IsIn t (after ours es .link)
 session-link es t b s =
     let f = session-at b s .fits in
-    record { connected = f .connected; good = f .good; kb1 = f .kb1; kb2 = f .kb2; windows = f .windows; reply = f .reply }
+    record { connected = f .connected; good = f .good; pair = f .pair; windows = f .windows; reply = f .reply }
 
 -- where the link stays connected, no report 7 was made
 over-off : (es : Log) (e : Event) (all rs : List Report) (t : Talk) (r : Run) → Ends es e all t rs r → isConnected (r .phase .state) ≡ true

@@ -6,7 +6,8 @@ use mathlib.Core.Bool.{true, false, false≢true}
 use mathlib.Core.Path.{_≡_, _∙_, refl, sym, ap}
 use Rattle.base.specs.Choice.{if_then_else_}
 use Rattle.units.specs.declared.Micros.{Micros}
-use Rattle.keys.specs.Keys.{goodPair}
+use Rattle.keys.specs.Keys.{isGood}
+use Rattle.keys.specs.declared.Pair.{Pair}
 use Rattle.events.specs.declared.Kind.{Kind}
 use Rattle.events.specs.declared.Kind.the-variants.{Address}
 use Rattle.events.specs.declared.Event.{Event}
@@ -47,7 +48,7 @@ one-more a bs s b (s4 p1 p2 p3 p4) f z = absurd (false≢true (sym z))
 
 -- (the kind is no part of the stages on the way: it is put back at the end)
 abbrev Good : Event → Log → Start → Event → Type 0
-Good a bs s b = a .kind ≡ Address → SlowStart a (s .kb1) (s .kb2) (bs ▷ b)
+Good a bs s b = a .kind ≡ Address → SlowStart a (s .pair) (bs ▷ b)
 
 finish : (a : Event) (bs : Log) (s : Start) (b : Event) → SoFar a bs s → Passes s (fallBy Address (a .start)) (lastEnd a bs) b → isLast (s .stage) ≡ true
     → Good a bs s b
@@ -59,7 +60,7 @@ finish a bs s b (s3 p1 p2 p3) f z k = absurd (false≢true z)
 finish a bs s b (s4 p1 p2 p3 p4) f z k = slow k p1 p2 p3 p4 (comes-next refl f)
 
 pub slow-done : (m : Micros) (a : Event) (bs : Log) (b : Event) → a .kind ≡ Address → Done m a bs b
-    → SlowStart a (startOn a bs .kb1) (startOn a bs .kb2) (bs ▷ b)
+    → SlowStart a (startOn a bs .pair) (bs ▷ b)
 slow-done m a bs b k d = done-good Address SoFar first one-more Good finish m a bs b k d k
 
 -- ---- the place that is due is the stage's
@@ -78,10 +79,10 @@ slow-place m a bs k r =
     ∙ place-by a bs (startOn a bs) (way Address SoFar first one-more m a bs k r)
 
 -- ---- and from the bytes to the run
-pub done-slow : (m : Micros) (a : Event) (kb1 kb2 : ℕ) (bs : Log) (b : Event) → m .0 + 300_000 ≤ a .start .0 → SlowStart a kb1 kb2 (bs ▷ b)
-    → Done m a bs b × (startOn a bs .kb1 ≡ kb1) × (startOn a bs .kb2 ≡ kb2) × (goodPair kb1 kb2 ≡ true)
+pub done-slow : (m : Micros) (a : Event) (pair : Pair) (bs : Log) (b : Event) → m .0 + 300_000 ≤ a .start .0 → SlowStart a pair (bs ▷ b)
+    → Done m a bs b × (startOn a bs .pair ≡ pair) × (isGood pair ≡ true)
 unfolding roleAt isOpening nextStage onward sumAfter isPairOne isPairTwo isRequestEnd isLast isEnding slowStart
-done-slow m a kb1 kb2 bs b i (slow {s = s} {one = one} {two = two} {back = back} k p1 p2 p3 p4 p5) =
+done-slow m a pair bs b i (slow {s = s} {one = one} {two = two} {back = back} k p1 p2 p3 p4 p5) =
     let b1 = none ▷ s in
     let b2 = b1 ▷ one in
     let b3 = b2 ▷ two in
@@ -96,7 +97,6 @@ done-slow m a kb1 kb2 bs b i (slow {s = s} {one = one} {two = two} {back = back}
     let o3 = on-next m a b2 t2 two (one .end) refl refl o2 p3 refl in
     let o4 = on-next m a b3 t3 back (two .end) refl refl o3 p4 refl in (
       on-last m a (b3 ▷ back) t4 b (back .end) refl refl o4 p5 refl,
-      ap (λ (x : Start). x .kb1) (o4 .at),
-      ap (λ (x : Start). x .kb2) (o4 .at),
+      ap (λ (x : Start). x .pair) (o4 .at),
       p3 .2,
     )

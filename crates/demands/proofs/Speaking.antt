@@ -17,8 +17,7 @@ use Rattle.base.specs.Sums.{countSum}
 use Rattle.base.specs.Reports.{frameReport, downReport, noReason}
 use Rattle.base.proofs.Tests.{by-test}
 use Rattle.units.specs.declared.Micros.{Micros}
-use Rattle.keys.specs.Keys.{goodPair}
-use Rattle.frame.specs.Read.{readOf}
+use Rattle.keys.specs.declared.Pair.{Pair}
 use Rattle.events.specs.Events.{isByte}
 use Rattle.events.specs.declared.Kind.{Kind}
 use Rattle.events.specs.declared.Kind.the-variants.{Byte, Tick}
@@ -28,7 +27,6 @@ use Rattle.talk.specs.Talk.{headReason, firstReason, begun, laterReason, isSum,
 use Rattle.talk.specs.declared.Part.{Part}
 use Rattle.talk.specs.declared.Message.{Message}
 use Rattle.talk.specs.Messages.{endsIn, isMessage}
-use Rattle.talk.proofs.Frames.{message-reads}
 use Rattle.phases.specs.Phases.{isQuiet, isHeld, isOpen, talking, holding, framed}
 use Rattle.phases.specs.declared.State.{State}
 use Rattle.phases.specs.declared.State.the-variants.{Down, Starting, Quiet, Held, Damage}
@@ -46,13 +44,14 @@ use Rattle.link.specs.declared.Answer.{Answer}
 use Rattle.link.specs.Telling.{tells, passedTells, byteTells, actedTells, handledTells}
 use Rattle.link.proofs.Three.{three-enough}
 use Rattle.demands.specs.Logs.{Log, none, _▷_, heardIn, numberAfter, takenOf, InBytes, Begins, whole, more}
+use Rattle.demands.specs.Editions.{isLinkPair, isFrame}
 use Rattle.demands.specs.Histories.{after, reportsTo, isAmong, Among, first}
 use Rattle.demands.specs.Accounts.{namedBy}
 use Rattle.demands.specs.Sessions.{Talk, talkAfter, Session, lasts, inForce, gapBefore}
 use Rattle.demands.specs.Messages.{InTime, ReportsFrame}
 use Rattle.demands.proofs.Behind.{Starts, Speaking, begins, refused, waits, grows, Finishes}
 use Rattle.demands.proofs.Basics.{basics, answer-taken, answer-refused}
-use Rattle.demands.proofs.Carrying.{gone-ends, ends-now}
+use Rattle.demands.proofs.Carrying.{gone-ends, ends-now, message-frame}
 use Rattle.demands.proofs.Tiling.{sum-is}
 use Rattle.demands.proofs.Completing.{acted-byte, acted-tick}
 use Rattle.demands.proofs.Listening.{Bytes, bytes-both, bytes-one, byte-more, byte-longer, other-more, refused-more, begins-longer}
@@ -66,7 +65,7 @@ use Rattle.demands.proofs.Reporting.{frames-end}
 use Rattle.demands.specs.Ours.{ours}
 
 -- ---- a message's bytes, and its session's key bytes
-speaks-good : {t : Talk} {b : Event} {log : Log} {bytes : List ℕ} → InBytes log → Speaking t b log bytes → goodPair (t .kb1) (t .kb2) ≡ true
+speaks-good : {t : Talk} {b : Event} {log : Log} {bytes : List ℕ} → InBytes log → Speaking t b log bytes → isLinkPair (t .pair) ≡ true
 unfolding InBytes
 speaks-good i (begins o) = session-at i (o .first .session) .fits .good
 speaks-good i (refused s n) = speaks-good (i .0) s
@@ -194,34 +193,33 @@ module _ (log : Log) (e : Event) (t : Talk) (b : Event) (bytes : List ℕ) (s : 
     side-is : b .side ≡ opened .byte .side
     side-is = sym (s .whose) ∙ holds .whose
 
-    right-head : eqb (headReason (t .kb1) (holds .head)) noReason ≡ true
+    right-head : eqb (headReason (t .pair .kb1) (holds .head)) noReason ≡ true
     right-head =
-        eq-eqb (headReason (t .kb1) (holds .head)) noReason
-        (sym (ap (λ (x : ℕ). headReason x (holds .head)) (session-at i (s .session) .fits .kb1)) ∙ holds .right)
+        eq-eqb (headReason (t .pair .kb1) (holds .head)) noReason
+        (sym (ap (λ (x : Pair). headReason (x .kb1) (holds .head)) (session-at i (s .session) .fits .pair)) ∙ holds .right)
 
     -- what the whole message does is what its rest does
-    rest-does : (ws : List ℕ) → isMessage (t .kb1) (b .side) (bytes ++ ws) ≡ endsIn (b .side) message ws
+    rest-does : (ws : List ℕ) → isMessage (t .pair .kb1) (b .side) (bytes ++ ws) ≡ endsIn (b .side) message ws
     rest-does ws =
         let side = opened .byte .side in
-        let whole-is : isMessage (t .kb1) side (holds .head ∷ (holds .rest ++ ws)) ≡ endsIn side message ws
+        let whole-is : isMessage (t .pair .kb1) side (holds .head ∷ (holds .rest ++ ws)) ≡ endsIn side message ws
         = rw right-head (gone-ends side (begun side (holds .head)) message (holds .rest) ws (holds .gone)) in
-        (λ j. isMessage (t .kb1) (side-is j) (bytes-are j ++ ws)) ∙ whole-is ∙ (λ j. endsIn (sym side-is j) message ws)
+        (λ j. isMessage (t .pair .kb1) (side-is j) (bytes-are j ++ ws)) ∙ whole-is ∙ (λ j. endsIn (sym side-is j) message ws)
 
-    one-more : (ws : List ℕ) → isMessage (t .kb1) (b .side) ((bytes ++ (e .value ∷ [])) ++ ws) ≡ endsIn (b .side) message (e .value ∷ ws)
-    one-more ws = ap (isMessage (t .kb1) (b .side)) (append-snoc bytes (e .value) ws) ∙ rest-does (e .value ∷ ws)
+    one-more : (ws : List ℕ) → isMessage (t .pair .kb1) (b .side) ((bytes ++ (e .value ∷ [])) ++ ws) ≡ endsIn (b .side) message (e .value ∷ ws)
+    one-more ws = ap (isMessage (t .pair .kb1) (b .side)) (append-snoc bytes (e .value) ws) ∙ rest-does (e .value ∷ ws)
 
     -- a wrong byte: nothing makes it a frame
     wrong-ends : eqb (laterReason message (b .side) (e .value)) noReason ≡ false → (ws : List ℕ)
-        → isMessage (t .kb1) (b .side) ((bytes ++ (e .value ∷ [])) ++ ws) ≡ false
+        → isMessage (t .pair .kb1) (b .side) ((bytes ++ (e .value ∷ [])) ++ ws) ≡ false
     wrong-ends w ws = one-more ws ∙ rw w refl
 
     -- the checksum: `read` takes it
-    sum-reads : Bytes (bytes ++ (e .value ∷ [])) → goodPair (t .kb1) (t .kb2) ≡ true → laterReason message (b .side) (e .value) ≡ noReason
-        → isSum (message .part) ≡ true → readOf (t .kb1) (t .kb2) (bytes ++ (e .value ∷ [])) .no ≡ taken
+    sum-reads : Bytes (bytes ++ (e .value ∷ [])) → isLinkPair (t .pair) ≡ true → laterReason message (b .side) (e .value) ≡ noReason
+        → isSum (message .part) ≡ true → isFrame (t .pair) (bytes ++ (e .value ∷ [])) ≡ true
     sum-reads f g w l =
-        eqb-true (readOf (t .kb1) (t .kb2) (bytes ++ (e .value ∷ [])) .no) taken
-        (sym (message-reads (t .kb1) (t .kb2) (b .side) (bytes ++ (e .value ∷ [])) g f)
-        ∙ rest-does (e .value ∷ []) ∙ ends-now (b .side) message (e .value) w l)
+        sym (message-frame (t .pair) (b .side) (bytes ++ (e .value ∷ [])) g f)
+        ∙ rest-does (e .value ∷ []) ∙ ends-now (b .side) message (e .value) w l
 
     -- any other: it goes on
     later-is : laterReason message (e .side) (e .value) ≡ laterReason message (b .side) (e .value)
@@ -310,12 +308,12 @@ module _ (log : Log) (e : Event) (t : Talk) (b : Event) (bytes : List ℕ) (s : 
         ∙ drop-append-le (link .named) (heardIn log) (e .value ∷ []) (within (link .named) (heardIn log) (holds .head) (holds .rest) (holds .bytes))
         ∙ ap (λ (x : List ℕ). x ++ (e .value ∷ [])) (s .heard)
 
-    frame-made : Bytes (bytes ++ (e .value ∷ [])) → goodPair (t .kb1) (t .kb2) ≡ true
-        → readOf (t .kb1) (t .kb2) (bytes ++ (e .value ∷ [])) .no ≡ taken
+    frame-made : Bytes (bytes ++ (e .value ∷ [])) → isLinkPair (t .pair) ≡ true
+        → isFrame (t .pair) (bytes ++ (e .value ∷ [])) ≡ true
         → ReportsFrame (heardIn (log ▷ e)) (reportsTo ours log e) (bytes ++ (e .value ∷ []))
     unfolding reportOf
     frame-made f g r =
-        let whole-is = message-reads (t .kb1) (t .kb2) (b .side) (bytes ++ (e .value ∷ [])) g f ∙ eq-eqb _ taken r in
+        let whole-is = message-frame (t .pair) (b .side) (bytes ++ (e .value ∷ [])) g f ∙ r in
         let x = ends-last (b .side) message (e .value) (sym (rest-does (e .value ∷ [])) ∙ whole-is) in
         record {
           report = report;
@@ -327,8 +325,8 @@ module _ (log : Log) (e : Event) (t : Talk) (b : Event) (bytes : List ℕ) (s : 
 -- ---- how a message stands: the link holds it; nothing makes it a frame; it is one
 data Stands (t : Talk) (b : Event) (log : Log) (bytes : List ℕ) : Type 0 where
   open-still : Standing log t b bytes → Stands t b log bytes
-  hopeless : ((ws : List ℕ) → isMessage (t .kb1) (b .side) (bytes ++ ws) ≡ false) → Stands t b log bytes
-  done : readOf (t .kb1) (t .kb2) bytes .no ≡ taken → Stands t b log bytes
+  hopeless : ((ws : List ℕ) → isMessage (t .pair .kb1) (b .side) (bytes ++ ws) ≡ false) → Stands t b log bytes
+  done : isFrame (t .pair) bytes ≡ true → Stands t b log bytes
 
 -- ---- its first byte
 -- a byte with as many bytes before it as the last one has is the last one
@@ -366,20 +364,20 @@ module _ (t : Talk) (before : Log) (b : Event) (i : InBytes (before ▷ b)) (o :
   first-is = last-one (first-opened .begins) (first-opened .first .number) (first-opened .first .kind) (first-opened .index ∙ named-first)
 
   -- with a right head it is held
-  held-first : headReason (t .kb1) (b .value) ≡ noReason → isHeld (behind .phase .state) ≡ true
+  held-first : headReason (t .pair .kb1) (b .value) ≡ noReason → isHeld (behind .phase .state) ≡ true
   held-first h =
-      let none = first-none t (gapBefore (takenOf before) b) b (has-side (takenOf before) b (o .first .number) (o .first .kind)) (t .kb1) (o .timely)
+      let none = first-none t (gapBefore (takenOf before) b) b (has-side (takenOf before) b (o .first .number) (o .first .kind)) (t .pair) (o .timely)
       (o .expected) h in
       let p = first-is in
       first-opened .fresh (byte-longer before b (o .first .number) (o .first .kind) ∙ ap (λ (x : ℕ). x + 1) (sym named-first))
-      ((λ j. firstReason (t .kb1) (t .reply) (inForce t) (p .1 j .side) (p .1 j .value) (gapBefore (takenOf (p .0 j)) (p .1 j))) ∙ none)
+      ((λ j. firstReason (t .pair) (t .reply) (inForce t) (p .1 j .side) (p .1 j .value) (gapBefore (takenOf (p .0 j)) (p .1 j))) ∙ none)
 
   first-stands : Stands t b (before ▷ b) (b .value ∷ [])
-  first-stands = by-head (eqb (headReason (t .kb1) (b .value)) noReason) refl
+  first-stands = by-head (eqb (headReason (t .pair .kb1) (b .value)) noReason) refl
     where
-      by-head : (c : Bool) → eqb (headReason (t .kb1) (b .value)) noReason ≡ c → Stands t b (before ▷ b) (b .value ∷ [])
+      by-head : (c : Bool) → eqb (headReason (t .pair .kb1) (b .value)) noReason ≡ c → Stands t b (before ▷ b) (b .value ∷ [])
       by-head true c =
-          let h = held-first (eqb-true (headReason (t .kb1) (b .value)) noReason c) in
+          let h = held-first (eqb-true (headReason (t .pair .kb1) (b .value)) noReason c) in
           open-still (record {
             session = o .first .session;
             held = h;
@@ -397,8 +395,8 @@ on-stands t b log e bytes q u (hopeless f) = hopeless f
 on-stands t b log e bytes q u (done r) = done r
 
 grow-stands : (t : Talk) (b : Event) (log : Log) (e : Event) (bytes : List ℕ) → InBytes log → Bytes (bytes ++ (e .value ∷ []))
-    → goodPair (t .kb1) (t .kb2) ≡ true
-    → (readOf (t .kb1) (t .kb2) bytes .no ≡ taken → ⊥) → numberAfter (takenOf log) e ≡ taken → e .kind ≡ Byte → e .side ≡ b .side
+    → isLinkPair (t .pair) ≡ true
+    → (isFrame (t .pair) bytes ≡ true → ⊥) → numberAfter (takenOf log) e ≡ taken → e .kind ≡ Byte → e .side ≡ b .side
     → InTime (takenOf log) e
     → Stands t b log bytes → Stands t b (log ▷ e) (bytes ++ (e .value ∷ []))
 grow-stands t b log e bytes i f g r n k d m (open-still s) = by-tests (eqb later noReason) (isSum part) refl refl
@@ -414,7 +412,7 @@ grow-stands t b log e bytes i f g r n k d m (open-still s) = by-tests (eqb later
     by-tests true false x y = open-still (goes-on log e t b bytes s m i n k d (eqb-true later noReason x) y)
     by-tests false y x z = hopeless (wrong-ends log e t b bytes s m i n k d x)
 grow-stands t b log e bytes i f g r n k d m (hopeless h) =
-    hopeless (λ ws. ap (isMessage (t .kb1) (b .side)) (append-assoc bytes (e .value ∷ []) ws) ∙ h ((e .value ∷ []) ++ ws))
+    hopeless (λ ws. ap (isMessage (t .pair .kb1) (b .side)) (append-assoc bytes (e .value ∷ []) ws) ∙ h ((e .value ∷ []) ++ ws))
 grow-stands t b log e bytes i f g r n k d m (done q) = absurd (r q)
 
 stands : {t : Talk} {b : Event} {log : Log} {bytes : List ℕ} → InBytes log → Speaking t b log bytes → Stands t b log bytes
@@ -429,24 +427,24 @@ stands {t = t} {b = b} i (grows {log = log} {bytes = bytes} {e = e} s r n k d m)
     (stands (i .0) s)
 
 -- ---- the last byte
-alone-never : (t : Talk) (b : Event) → goodPair (t .kb1) (t .kb2) ≡ true → Bytes (b .value ∷ [])
-    → readOf (t .kb1) (t .kb2) (b .value ∷ []) .no ≡ taken → ⊥
+alone-never : (t : Talk) (b : Event) → isLinkPair (t .pair) ≡ true → Bytes (b .value ∷ [])
+    → isFrame (t .pair) (b .value ∷ []) ≡ true → ⊥
 alone-never t b g f r =
-    let m = message-reads (t .kb1) (t .kb2) (b .side) (b .value ∷ []) g f ∙ eq-eqb _ taken r in
-    false≢true (by-test (λ (x : Bool). false ≡ x) (eqb (headReason (t .kb1) (b .value)) noReason) {x = false} {y = false} (λ _. refl) (λ _. refl) ∙ m)
+    let m = message-frame (t .pair) (b .side) (b .value ∷ []) g f ∙ r in
+    false≢true (by-test (λ (x : Bool). false ≡ x) (eqb (headReason (t .pair .kb1) (b .value)) noReason) {x = false} {y = false} (λ _. refl) (λ _. refl) ∙ m)
 
 tick-byte : (k : Kind) → k ≡ Tick → k ≡ Byte → ⊥
 tick-byte k t b = let z : _≡_ {A = ℕ} 0 1 = cc in omega arith
 
 last-reports : (es : Log) (e : Event) (t : Talk) (b : Event) (bytes : List ℕ) → InBytes (es ▷ e) → Speaking t b (es ▷ e) bytes → e .kind ≡ Byte
-    → numberAfter (takenOf es) e ≡ taken → readOf (t .kb1) (t .kb2) bytes .no ≡ taken → ReportsFrame (heardIn (es ▷ e)) (reportsTo ours es e) bytes
+    → numberAfter (takenOf es) e ≡ taken → isFrame (t .pair) bytes ≡ true → ReportsFrame (heardIn (es ▷ e)) (reportsTo ours es e) bytes
 unfolding InBytes
 last-reports es e t b bytes i (begins o) k n r = absurd (alone-never t e (session-at i (o .first .session) .fits .good) (bytes-one (e .value) (i .1)) r)
 last-reports es e t b bytes i (refused s m) k n r = absurd (m n)
 last-reports es e t b bytes i (waits s m j d) k n r = absurd (tick-byte (e .kind) j k)
 last-reports es e t b bytes i (grows {bytes = front} s q m j d near) k n r = by-stand (stands (i .0) s)
   where
-    good : goodPair (t .kb1) (t .kb2) ≡ true
+    good : isLinkPair (t .pair) ≡ true
     good = speaks-good (i .0) s
 
     all-bytes : Bytes (front ++ (e .value ∷ []))
@@ -455,8 +453,7 @@ last-reports es e t b bytes i (grows {bytes = front} s q m j d near) k n r = by-
     by-stand : Stands t b es front → ReportsFrame (heardIn (es ▷ e)) (reportsTo ours es e) (front ++ (e .value ∷ []))
     by-stand (open-still x) = frame-made es e t b front x near (i .0) n k d all-bytes good r
     by-stand (hopeless f) =
-        absurd (false≢true (sym (f (e .value ∷ [])) ∙ message-reads (t .kb1) (t .kb2) (b .side) (front ++ (e .value ∷ [])) good all-bytes
-        ∙ eq-eqb _ taken r))
+        absurd (false≢true (sym (f (e .value ∷ [])) ∙ message-frame (t .pair) (b .side) (front ++ (e .value ∷ [])) good all-bytes ∙ r))
     by-stand (done x) = absurd (q x)
 
 -- A BYTE IS REPORTED AS A FRAME exactly if it ends a message in bytes that `read` takes, and the report names these; by the session behind the message's

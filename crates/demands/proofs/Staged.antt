@@ -9,7 +9,8 @@ use mathlib.Core.Path.{_≡_, refl, ap}
 use lib.Dec.{eqb}
 use borrow.Author.Tests.{eqb-true, eq-eqb}
 use Rattle.base.proofs.Tests.{and-split, or-split}
-use Rattle.keys.specs.Keys.{goodPair}
+use Rattle.keys.specs.Keys.{pairOf, isGood}
+use Rattle.keys.specs.declared.Pair.{Pair}
 use Rattle.events.specs.declared.Side.the-variants.{Tester, Unit}
 use Rattle.starts.specs.Starts.{due as dueBy, dueAt, roleAt, isEnding, complement, isReplyFormat, fits, isLast}
 use Rattle.starts.specs.declared.Stage.{Stage}
@@ -21,13 +22,13 @@ use Rattle.demands.specs.Starts.{any, only, sumBehind, IsOne, Fits, Plac
 
 -- ---- the place that a stage stands for
 abbrev pub at : ℕ → Stage → ℕ → ℕ → ℕ → Start
-at address stage sum kb1 kb2 = record { kb1 = kb1; kb2 = kb2; address = address; sum = sum; stage = stage }
+at address stage sum kb1 kb2 = record { pair = pairOf kb1 kb2; address = address; sum = sum; stage = stage }
 
 abbrev placeAt : Stage → Start → Place
 placeAt Sync s = sync
 placeAt FirstKey s = keyOne
-placeAt SecondKey s = keyTwo (s .kb1)
-placeAt KeyBack s = keyBack (s .kb2)
+placeAt SecondKey s = keyTwo (s .pair .kb1)
+placeAt KeyBack s = keyBack (s .pair .kb2)
 placeAt AddressBack s = addressBack (s .address)
 placeAt AskFormat s = asks
 placeAt AskTarget s = next Tester any
@@ -43,7 +44,7 @@ placeAt Length s = next Unit (only 3)
 placeAt Service s = next Unit (only 0xC1)
 placeAt KeyOne s = next Unit any
 placeAt KeyTwo s = next Unit any
-placeAt Sum s = lastPlace Unit 0 20_000 (sumBehind (s .sum) (s .kb1) (s .kb2))
+placeAt Sum s = lastPlace Unit 0 20_000 (sumBehind (s .sum) (s .pair))
 
 abbrev pub placeOf : Start → Place
 placeOf s = placeAt (s .stage) s
@@ -83,9 +84,9 @@ format-fits : (v : ℕ) → (isReplyFormat v ≡ true) ↔ Fits (replies .value)
 unfolding isReplyFormat
 format-fits v = simp or-assoc (one-fits 0x03 _ v _ (one-fits 0x00 _ v _ (one-fits 0x83 _ v _ (last-fits 0x80 v))))
 
-sum-fits : (x kb1 kb2 v : ℕ) → ((eqb v x && goodPair kb1 kb2) ≡ true) ↔ Fits (sumBehind x kb1 kb2) v
-sum-fits x kb1 kb2 v = (
-  λ q. let h = and-split (eqb v x) (goodPair kb1 kb2) q in (eqb-true v x (h .0), h .1),
+sum-fits : (x : ℕ) (pair : Pair) (v : ℕ) → ((eqb v x && isGood pair) ≡ true) ↔ Fits (sumBehind x pair) v
+sum-fits x pair v = (
+  λ q. let h = and-split (eqb v x) (isGood pair) q in (eqb-true v x (h .0), h .1),
   λ h. rw (eq-eqb v x (h .0)) (h .1),
 )
 
@@ -115,8 +116,8 @@ means-at Length address sum kb1 kb2 = stands refl refl (only-fits 3)
 means-at Service address sum kb1 kb2 = stands refl refl (only-fits 0xC1)
 means-at KeyOne address sum kb1 kb2 = stands refl refl any-fits
 means-at KeyTwo address sum kb1 kb2 = stands refl refl any-fits
-means-at Sum address sum kb1 kb2 = stands refl refl (sum-fits sum kb1 kb2)
+means-at Sum address sum kb1 kb2 = stands refl refl (sum-fits sum (pairOf kb1 kb2))
 
 -- A STAGE MEANS ITS PLACE
 pub means : (s : Start) → Means s (placeOf s)
-means s = means-at (s .stage) (s .address) (s .sum) (s .kb1) (s .kb2)
+means s = means-at (s .stage) (s .address) (s .sum) (s .pair .kb1) (s .pair .kb2)

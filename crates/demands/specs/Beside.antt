@@ -27,6 +27,7 @@ use Rattle.text.specs.Text.{headText, endText}
 use Rattle.listing.specs.Listing.{listingOf}
 use Rattle.demands.specs.Logs.{Log, _▷_, InBytes, heardIn, numberAfter, takenOf}
 use Rattle.demands.specs.Refusals.{Not, Numbered}
+use Rattle.demands.specs.Editions.{isLinkPair}
 use Rattle.demands.specs.Histories.{after, reportsOf}
 use Rattle.demands.specs.Ours.{ours, ourAnswer}
 use Rattle.demands.specs.Accounts.{countsOf, heldIn}
@@ -38,9 +39,8 @@ use Rattle.demands.specs.Endings.{Starting}
 -- what a session says of our link
 pub record IsIn (t : Talk) (l : Link) : Type 0 where
   pub connected : isConnected (l .phase .state) ≡ true
-  pub good : goodPair (t .kb1) (t .kb2) ≡ true
-  pub kb1 : l .phase .start .kb1 ≡ t .kb1
-  pub kb2 : l .phase .start .kb2 ≡ t .kb2
+  pub good : isLinkPair (t .pair) ≡ true
+  pub pair : l .phase .start .pair ≡ t .pair
   pub windows : l .phase .windows ≡ inForce t
   pub reply : l .phase .reply ≡ t .reply
 
@@ -49,9 +49,8 @@ pub record IsIn (t : Talk) (l : Link) : Type 0 where
 pub record ConnectedLink (log : Log) (e : Event) (c : Connects log e) (a : Answer) : Type 0 where
   pub answer : Connected log e c (listed (a .reports))
   pub state : a .link .phase .state ≡ Quiet
-  pub kb1 : a .link .phase .start .kb1 ≡ c .kb1
-  pub kb2 : a .link .phase .start .kb2 ≡ c .kb2
-  pub windows : a .link .phase .windows ≡ setOf (c .kb1)
+  pub pair : a .link .phase .start .pair ≡ c .pair
+  pub windows : a .link .phase .windows ≡ setOf (c .pair)
   pub reply : a .link .phase .reply ≡ Never
   pub request : a .link .phase .request ≡ Ordinary
 

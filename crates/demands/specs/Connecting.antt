@@ -1,16 +1,17 @@
 -- When an event completes an initialization: a condition on the events taken before it, and on no link. Assumes nothing.
-use Prim.Native.Nat.{ℕ, _+_, _≤_}
+use Prim.Native.Nat.{_+_, _≤_}
 use mathlib.Core.Bool.{true}
 use mathlib.Core.List.{List, [], _∷_}
 use mathlib.Core.Path.{_≡_}
 use mathlib.Core.Logic.{_⊎_}
 use lib.ListN.{length}
 use Rattle.base.specs.Reports.{connectedReport, noReason}
-use Rattle.keys.specs.Keys.{goodPair}
+use Rattle.keys.specs.declared.Pair.{Pair}
 use Rattle.events.specs.declared.Kind.the-variants.{Byte, Tick}
 use Rattle.events.specs.declared.Event.{Event}
 use Rattle.reports.specs.declared.Report.{Report}
 use Rattle.demands.specs.Logs.{Log, none, _▷_, markOf, heardOf}
+use Rattle.demands.specs.Editions.{isLinkPair}
 use Rattle.demands.specs.Starts.{SlowStart, FastStart}
 
 -- a log is `before`, then the event s, and then only ticks and bytes, of which the bytes are bs
@@ -25,12 +26,11 @@ pub record Connects (log : Log) (e : Event) : Type 0 where
   pub start : Event
   pub before : Log
   pub bytes : Log
-  pub kb1 : ℕ
-  pub kb2 : ℕ
+  pub pair : Pair
   pub since : Since start before log bytes
   pub idle : markOf before .0 + 300_000 ≤ start .start .0
   pub last : e .kind ≡ Byte
-  pub good : SlowStart start kb1 kb2 (bytes ▷ e) ⊎ FastStart start kb1 kb2 (bytes ▷ e)
+  pub good : SlowStart start pair (bytes ▷ e) ⊎ FastStart start pair (bytes ▷ e)
 
 -- WHAT IT IS ANSWERED WITH
 pub record Connected (log : Log) (e : Event) (c : Connects log e) (rs : List Report) : Type 0 where
@@ -44,4 +44,4 @@ pub record Connected (log : Log) (e : Event) (c : Connects log e) (rs : List Rep
         reason = noReason;
       } ∷ [])
   -- its key bytes are a good pair
-  pub good : goodPair (c .kb1) (c .kb2) ≡ true
+  pub good : isLinkPair (c .pair) ≡ true

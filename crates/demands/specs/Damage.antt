@@ -8,9 +8,10 @@ use mathlib.Core.Path.{_≡_}
 use lib.Dec.{eqb, leb}
 use lib.ListN.{length}
 use Rattle.base.specs.Choice.{if_then_else_}
-use Rattle.base.specs.Reports.{noReason, brokenOff, closed, modeOne, wrongForm, otherSide, wrongLength, wrongSum}
+use Rattle.base.specs.Reports.{noReason, closed, modeOne, wrongForm, otherSide, wrongLength, wrongSum}
 use Rattle.units.specs.declared.Micros.{Micros}
 use Rattle.keys.specs.Keys.{lengthInFormat, extraLength, noAddresses, withAddresses, isExtended}
+use Rattle.keys.specs.declared.Pair.{Pair}
 use Rattle.frame.specs.Layout.{total}
 use Rattle.events.specs.Events.{sameSide}
 use Rattle.events.specs.declared.Side.{Side}
@@ -19,6 +20,7 @@ use Rattle.reports.specs.declared.Report.{Report}
 use Rattle.demands.specs.Logs.{Log, _▷_, bytesOf, takenOf}
 use Rattle.demands.specs.Refusals.{Not}
 use Rattle.demands.specs.Frames.{lowSix, addressesIn, sizeSaid}
+use Rattle.demands.specs.Editions.{reasonAtEnd}
 use Rattle.demands.specs.Histories.{Machine}
 use Rattle.demands.specs.Accounts.{bytesNamed}
 use Rattle.demands.specs.Sessions.{Turns, gapBefore, EarlyAt, StrayAt}
@@ -67,22 +69,24 @@ reasonBehind kb1 before [] = noReason
 reasonBehind kb1 before (b ∷ bs) =
     if eqb (faultAt kb1 before b) noReason then reasonBehind kb1 (before ++ (b ∷ [])) bs else faultAt kb1 before b
 
-abbrev pub reasonIn : ℕ → List Event → ℕ
-reasonIn kb1 bs = reasonBehind kb1 [] bs
+abbrev pub reasonIn : Pair → List Event → ℕ
+reasonIn pair bs = reasonBehind (pair .kb1) [] bs
 
--- a report's reason, where its bytes give the reason k, and from the mark to the event's start there is such a gap
-pub record GoesBy (k : ℕ) (gap : Micros) (r : Report) : Type 0 where
+-- a report's reason, where its bytes give the reason k, and the reason atEnd if they end as a message, and from the mark to the event's start there is such
+-- a gap
+pub record GoesBy (k atEnd : ℕ) (gap : Micros) (r : Report) : Type 0 where
   -- "With damage being skipped: report 2, its reason.", "damage with its reason"
   pub wrong : Not (k ≡ noReason) → r .reason ≡ k
   -- "20 ms passed since the mark with a message held: report 2, reason 1."
-  pub broken : k ≡ noReason → 20_000 < gap .0 → r .reason ≡ brokenOff
+  pub ended : k ≡ noReason → 20_000 < gap .0 → r .reason ≡ atEnd
   -- "A, W or D then close what is open: a held message as report 2 reason 2"
   pub closed : k ≡ noReason → Not (20_000 < gap .0) → r .reason ≡ closed
 
 -- A REPORT 2 of the event e behind es: its first byte, which was early or stray exactly if the reason is 3 or 4; and where it was neither, the reason goes
--- by the bytes that the report names, under the session's KB1
+-- by the bytes that the report names, under the session's key bytes
 pub record Damaged (m : Machine) (es : Log) (e : Event) (r : Report) : Type 0 where
   pub turns : Turns m (es ▷ e) r
   pub otherwise : Not (EarlyAt m (turns .first .before) (turns .first .byte) (turns .first .talk))
       → Not (StrayAt m (turns .first .before) (turns .first .byte) (turns .first .talk))
-      → GoesBy (reasonIn (turns .first .talk .kb1) (bytesNamed (bytesOf (takenOf es)) r)) (gapBefore (takenOf es) e) r
+      → let bytes = bytesNamed (bytesOf (takenOf es)) r in
+      GoesBy (reasonIn (turns .first .talk .pair) bytes) (reasonAtEnd (turns .first .talk .pair) bytes) (gapBefore (takenOf es) e) r

@@ -47,7 +47,7 @@ pub record AnswersStop (m : Machine) (t : Talk) (es : Log) (e : Event) : Type 0 
   pub bytes : List ℕ
   pub ends : EndsInFrame m es e bytes
   pub unit : ends .first .side ≡ Unit
-  pub stop : stops (pendingIn (t .kb1) (t .kb2) (t .frames)) (dataOf (t .kb1) (t .kb2) bytes) ≡ true
+  pub stop : stops (pendingIn (t .pair) (t .frames)) (dataOf (t .pair .kb1) (t .pair .kb2) bytes) ≡ true
 
 -- report 7 and its reasons, in the session t: 2 "no first reply awaited, P3 max passed"; "if connected, report 7 (reason 4 for A or W, 3 for D)". (Reason
 -- 1 is for a stop that the unit answers: `stops-exactly`.)

@@ -1,6 +1,7 @@
 pub mod Logs
 pub mod Refusals
 pub mod Frames
+pub mod Editions
 pub mod Wrong
 pub mod Histories
 pub mod Ours

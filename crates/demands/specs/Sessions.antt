@@ -14,10 +14,12 @@ use Rattle.base.specs.Numbers.{taken}
 use Rattle.base.specs.Reports.{frameReport, damageReport, connectedReport, noReplyReport, downReport, early, stray}
 use Rattle.units.specs.Units.{gapOf}
 use Rattle.units.specs.declared.Micros.{Micros}
+use Rattle.keys.specs.Keys.{pairOf}
+use Rattle.keys.specs.declared.Pair.{Pair}
 use Rattle.timing.specs.Timing.{setOf, decodedOf, isPassed}
 use Rattle.timing.specs.declared.Windows.{Windows}
 use Rattle.timing.specs.declared.Codes.{Codes}
-use Rattle.frame.specs.Read.{readOf, dataOf}
+use Rattle.frame.specs.Read.{dataOf}
 use Rattle.events.specs.Events.{isTester}
 use Rattle.events.specs.declared.Side.{Side}
 use Rattle.events.specs.declared.Side.the-variants.{Tester, Unit, Nobody}
@@ -29,6 +31,7 @@ use Rattle.talk.specs.declared.Reply.the-variants.{Never, First, Further}
 use Rattle.reports.specs.declared.Report.{Report}
 use Rattle.demands.specs.Logs.{Log, _▷_, markOf, heardOf, bytesOf, heardIn, numberAfter, takenOf, Begins}
 use Rattle.demands.specs.Refusals.{Not}
+use Rattle.demands.specs.Editions.{isFrame}
 use Rattle.demands.specs.Histories.{Machine, reportsTo, Says, Among}
 use Rattle.demands.specs.Accounts.{namedBy, bytesNamed, heldIn}
 
@@ -66,35 +69,34 @@ codesIn q = record { p2min = getD q 2 0; p2max = getD q 3 0; p3min = getD q 4 0;
 
 -- "'After' means that it is the latest tester frame. Each takes effect once for its request.": the data of the latest tester frame, and no data (which
 -- no frame has) before the first one and once it has taken effect.
-unfoldable pub pendingIn : ℕ → ℕ → Frames → List ℕ
-pendingIn kb1 kb2 nothing = []
-pendingIn kb1 kb2 (fs ▸ f) =
-    let q = pendingIn kb1 kb2 fs in
-    let a = dataOf kb1 kb2 (f .bytes) in
+unfoldable pub pendingIn : Pair → Frames → List ℕ
+pendingIn pair nothing = []
+pendingIn pair (fs ▸ f) =
+    let q = pendingIn pair fs in
+    let a = dataOf (pair .kb1) (pair .kb2) (f .bytes) in
     if isTester (f .side) then a else
     if stops q a || resets q a || retimes q a then [] else q
 
 -- THE WINDOWS IN FORCE. "Timing starts at the set KB1 names." A unit frame may change it: "KB1's set", or "those codes from this frame's end, if
 -- allowed, else no change".
-unfoldable pub windowsIn : ℕ → ℕ → Frames → Windows
-windowsIn kb1 kb2 nothing = setOf kb1
-windowsIn kb1 kb2 (fs ▸ f) =
-    let q = pendingIn kb1 kb2 fs in
-    let a = dataOf kb1 kb2 (f .bytes) in
-    if isTester (f .side) then windowsIn kb1 kb2 fs else
-    if resets q a then setOf kb1 else
-    if retimes q a then ifAllowed (decodedOf (codesIn q)) (windowsIn kb1 kb2 fs) else windowsIn kb1 kb2 fs
+unfoldable pub windowsIn : Pair → Frames → Windows
+windowsIn pair nothing = setOf pair
+windowsIn pair (fs ▸ f) =
+    let q = pendingIn pair fs in
+    let a = dataOf (pair .kb1) (pair .kb2) (f .bytes) in
+    if isTester (f .side) then windowsIn pair fs else
+    if resets q a then setOf pair else
+    if retimes q a then ifAllowed (decodedOf (codesIn q)) (windowsIn pair fs) else windowsIn pair fs
 
 -- ---- a session so far
 pub record Talk : Type 0 where
-  pub kb1 : ℕ
-  pub kb2 : ℕ
+  pub pair : Pair
   pub frames : Frames
   pub reply : Reply
 
 -- at its beginning no reply is expected
-abbrev pub opening : ℕ → ℕ → Talk
-opening kb1 kb2 = record { kb1 = kb1; kb2 = kb2; frames = nothing; reply = Never }
+abbrev pub opening : Pair → Talk
+opening pair = record { pair = pair; frames = nothing; reply = Never }
 
 -- THE KEY BYTES AMONG THE BYTES of an initialization: a slow start has five, 55 KB1 KB2 and two complements; a fast one has more, and ends in KB1, KB2 and
 -- the checksum
@@ -108,7 +110,7 @@ unfoldable pub secondKey : List ℕ → ℕ
 secondKey bytes = getD bytes (suc (firstKeyAt bytes)) 0
 
 abbrev pub openedBy : List ℕ → Talk
-openedBy bytes = opening (firstKey bytes) (secondKey bytes)
+openedBy bytes = opening (pairOf (firstKey bytes) (secondKey bytes))
 
 -- whose the last of these bytes is
 unfoldable pub lastSide : List Event → Side
@@ -124,12 +126,11 @@ frameNamed log r = record { side = lastSide (bytesNamed (bytesOf log) r); bytes 
 unfoldable pub afterReport : Talk → Log → Report → Talk
 afterReport t log r =
     if eqb (r .number) frameReport then record {
-      kb1 = t .kb1;
-      kb2 = t .kb2;
+      pair = t .pair;
       frames = t .frames ▸ frameNamed log r;
       reply = if isTester (frameNamed log r .side) then First else Further;
     } else
-    if eqb (r .number) damageReport || eqb (r .number) noReplyReport then record { kb1 = t .kb1; kb2 = t .kb2; frames = t .frames; reply = Never } else t
+    if eqb (r .number) damageReport || eqb (r .number) noReplyReport then record { pair = t .pair; frames = t .frames; reply = Never } else t
 
 -- the reports of an event, by the events taken up to it
 unfoldable pub talkAfter : Talk → Log → List Report → Talk
@@ -150,13 +151,13 @@ pub record SomeSession (m : Machine) (es : Log) : Type 0 where
 
 -- the windows in force in it
 abbrev pub inForce : Talk → Windows
-inForce t = windowsIn (t .kb1) (t .kb2) (t .frames)
+inForce t = windowsIn (t .pair) (t .frames)
 
--- ---- a report 1: the session that its event came in, and the frame that `read` takes under the session's key bytes
+-- ---- a report 1: the session that its event came in, and bytes that are a frame under the session's key bytes
 pub record Reads (m : Machine) (es : Log) (e : Event) (r : Report) : Type 0 where
   pub talk : Talk
   pub session : Session m es talk
-  pub reads : readOf (talk .kb1) (talk .kb2) (namedBy (heardIn (es ▷ e)) r) .no ≡ taken
+  pub reads : isFrame (talk .pair) (namedBy (heardIn (es ▷ e)) r) ≡ true
 
 -- ---- in a session, with so many bytes held and so long a gap from the mark to the event's start
 abbrev pub gapBefore : Log → Event → Micros

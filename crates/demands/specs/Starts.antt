@@ -9,7 +9,8 @@ use mathlib.Core.Logic.{_⊎_}
 use lib.Dec.{eqb}
 use Rattle.base.specs.Choice.{if_then_else_}
 use Rattle.units.specs.declared.Micros.{Micros}
-use Rattle.keys.specs.Keys.{goodPair}
+use Rattle.keys.specs.Keys.{goodPair, pairOf, isGood}
+use Rattle.keys.specs.declared.Pair.{Pair}
 use Rattle.events.specs.declared.Kind.{Kind}
 use Rattle.events.specs.declared.Kind.the-variants.{Address, WakeUp, Byte, Tick, Drop, Other}
 use Rattle.events.specs.declared.Side.{Side}
@@ -30,8 +31,8 @@ pub data Value : Type 0 where
   oneOf : List ℕ → Value
   -- a KB2 that makes a good pair with this KB1
   pairedWith : ℕ → Value
-  -- this checksum, behind this KB1 and KB2, which make a good pair: "checksum and pair both at the checksum byte"
-  sumBehind : ℕ → ℕ → ℕ → Value
+  -- this checksum, behind these key bytes, which are a good pair: "checksum and pair both at the checksum byte"
+  sumBehind : ℕ → Pair → Value
 
 unfoldable pub IsOne : List ℕ → ℕ → Type 0
 IsOne [] v = ⊥
@@ -42,7 +43,7 @@ Fits any v = Always
 Fits (only x) v = v ≡ x
 Fits (oneOf xs) v = IsOne xs v
 Fits (pairedWith kb1) v = goodPair kb1 v ≡ true
-Fits (sumBehind sum kb1 kb2) v = (v ≡ sum) × (goodPair kb1 kb2 ≡ true)
+Fits (sumBehind sum pair) v = (v ≡ sum) × (isGood pair ≡ true)
 
 -- whose byte is due there, how early and how late it may start, which values fit, and whether it is the initialization's last
 pub record Place : Type 0 where
@@ -84,10 +85,10 @@ abbrev pub addressBack : ℕ → Place
 addressBack address = lastPlace Unit 25_000 50_000 (only (255 - address))
 
 -- A GOOD SLOW START from the address event a, with its KB1 and KB2: five bytes, each right at its place. "From the address", and then from byte to byte.
-pub data SlowStart (a : Event) : ℕ → ℕ → Log → Type 0 where
+pub data SlowStart (a : Event) : Pair → Log → Type 0 where
   slow : {s one two back done : Event} → a .kind ≡ Address → Right sync (a .end) s → Right keyOne (s .end) one → Right (keyTwo (one .value)) (one .end) two
       → Right (keyBack (two .value)) (two .end) back → Right (addressBack (a .value)) (back .end) done
-      → SlowStart a (one .value) (two .value) (none ▷ s ▷ one ▷ two ▷ back ▷ done)
+      → SlowStart a (pairOf (one .value) (two .value)) (none ▷ s ▷ one ▷ two ▷ back ▷ done)
 
 -- ---- FAST, from the wake-up event w, which falls at its start and rises at its end
 -- "Low for 24 to 26 ms"
@@ -108,8 +109,8 @@ abbrev pub replies : Place
 replies = place Unit 25_000 50_000 (oneOf (0x03 ∷ 0x00 ∷ 0x83 ∷ 0x80 ∷ []))
 
 -- the checksum of the reply, the last byte of all
-abbrev pub replySum : ℕ → ℕ → ℕ → Place
-replySum sum kb1 kb2 = lastPlace Unit 0 20_000 (sumBehind (sum % 256) kb1 kb2)
+abbrev pub replySum : ℕ → Pair → Place
+replySum sum pair = lastPlace Unit 0 20_000 (sumBehind (sum % 256) pair)
 
 -- "The request is 81 or C1, target, source, 81, checksum": its bytes, and the last of them
 pub data Request (w : Event) : Log → Event → Type 0 where
@@ -129,11 +130,11 @@ pub data Header (w : Event) : Log → Event → ℕ → Type 0 where
       → Header w (bs ▷ f ▷ t ▷ s ▷ len) len (f .value + t .value + s .value + len .value)
 
 -- A GOOD FAST START, with its KB1 and KB2. "data C1 KB1 KB2, pair good", and the checksum
-pub data FastStart (w : Event) : ℕ → ℕ → Log → Type 0 where
+pub data FastStart (w : Event) : Pair → Log → Type 0 where
   fast : {bs : Log} {h service one two sum : Event} {n : ℕ} → Header w bs h n → Right (next Unit (only 0xC1)) (h .end) service
       → Right (next Unit any) (service .end) one → Right (next Unit any) (one .end) two
-      → Right (replySum (n + service .value + one .value + two .value) (one .value) (two .value)) (two .end) sum
-      → FastStart w (one .value) (two .value) (bs ▷ service ▷ one ▷ two ▷ sum)
+      → Right (replySum (n + service .value + one .value + two .value) (pairOf (one .value) (two .value))) (two .end) sum
+      → FastStart w (pairOf (one .value) (two .value)) (bs ▷ service ▷ one ▷ two ▷ sum)
 
 -- ---- THE PLACE THAT IS DUE behind an address or wake-up and the bytes so far, which were right
 unfoldable pub dueSlow : ℕ → List Event → Place
@@ -148,7 +149,7 @@ unfoldable pub dueData : ℕ → List Event → Place
 dueData sum [] = next Unit (only 0xC1)
 dueData sum (service ∷ []) = next Unit any
 dueData sum (service ∷ one ∷ []) = next Unit any
-dueData sum (service ∷ one ∷ two ∷ bs) = replySum (sum + service .value + one .value + two .value) (one .value) (two .value)
+dueData sum (service ∷ one ∷ two ∷ bs) = replySum (sum + service .value + one .value + two .value) (pairOf (one .value) (two .value))
 
 -- .. behind what stands before an extra length byte; ..
 unfoldable pub dueLength : ℕ → List Event → Place

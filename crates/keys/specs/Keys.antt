@@ -66,6 +66,10 @@ goodPair kb1 kb2 =
     && (lengthInFormat kb1 || extraLength kb1)
     && (noAddresses kb1 || withAddresses kb1)
 
+-- of KB1 and KB2 as one value
+abbrev pub pairOf : ℕ → ℕ → Pair
+pairOf kb1 kb2 = record { kb1 = kb1; kb2 = kb2 }
+
 abbrev pub isGood : Pair → Bool
 isGood pair = goodPair (pair .kb1) (pair .kb2)
 

@@ -9,8 +9,7 @@ use Rattle.base.specs.Sums.{byteSum}
 use Rattle.base.specs.Reports.{noReason, wrongSide, tooEarly, misfit}
 use Rattle.units.specs.Units.{micros, isEarlier}
 use Rattle.units.specs.declared.Micros.{Micros}
-use Rattle.keys.specs.Keys.{goodPair, isGood}
-use Rattle.keys.specs.declared.Pair.{Pair}
+use Rattle.keys.specs.Keys.{goodPair, pairOf, isGood}
 use Rattle.events.specs.Events.{sameSide}
 use Rattle.events.specs.declared.Side.{Side}
 use Rattle.events.specs.declared.Side.the-variants.{Tester, Unit}
@@ -218,21 +217,15 @@ onward s v = record {
   stage = nextStage (s .stage) v;
   address = s .address;
   sum = sumAfter s v;
-  pair = record {
-    kb1 = if isPairOne (roleAt (s .stage)) then v else s .pair .kb1;
-    kb2 = if isPairTwo (roleAt (s .stage)) then v else s .pair .kb2;
-  };
+  pair = pairOf (if isPairOne (roleAt (s .stage)) then v else s .pair .kb1) (if isPairTwo (roleAt (s .stage)) then v else s .pair .kb2);
 }
 
--- ---- how they begin, without key bytes yet: none, a slow one from its address, a fast one
-abbrev pub noPair : Pair
-noPair = record { kb1 = 0; kb2 = 0 }
-
+-- ---- how they begin: none, a slow one from its address, a fast one
 unfoldable pub noStart : Start
-noStart = record { stage = Sync; address = 0; sum = 0; pair = noPair }
+noStart = record { stage = Sync; address = 0; sum = 0; pair = pairOf 0 0 }
 
 unfoldable pub slowStart : ℕ → Start
-slowStart address = record { stage = Sync; address = address; sum = 0; pair = noPair }
+slowStart address = record { stage = Sync; address = address; sum = 0; pair = pairOf 0 0 }
 
 unfoldable pub fastStart : Start
-fastStart = record { stage = AskFormat; address = 0; sum = 0; pair = noPair }
+fastStart = record { stage = AskFormat; address = 0; sum = 0; pair = pairOf 0 0 }
