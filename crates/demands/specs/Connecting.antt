@@ -10,7 +10,8 @@ use Rattle.keys.specs.Keys.{goodPair}
 use Rattle.events.specs.declared.Kind.the-variants.{Byte, Tick}
 use Rattle.events.specs.declared.Event.{Event}
 use Rattle.reports.specs.declared.Report.{Report}
-use Rattle.demands.specs.Logs.{Log, none, _▷_, markOf, heardOf}
+use Rattle.demands.specs.Logs.{Log, none, _▷_, heardOf}
+use Rattle.demands.specs.Idle.{idleUntil}
 use Rattle.demands.specs.Starts.{SlowStart, FastStart}
 
 -- a log is `before`, then the event s, and then only ticks and bytes, of which the bytes are bs
@@ -28,7 +29,7 @@ pub record Connects (log : Log) (e : Event) : Type 0 where
   pub kb1 : ℕ
   pub kb2 : ℕ
   pub since : Since start before log bytes
-  pub idle : markOf before .0 + 300_000 ≤ start .start .0
+  pub idle : idleUntil before ≤ start .start .0
   pub last : e .kind ≡ Byte
   pub good : SlowStart start kb1 kb2 (bytes ▷ e) ⊎ FastStart start kb1 kb2 (bytes ▷ e)
 
