@@ -366,14 +366,15 @@ pub fn go_onward(s: Start, v: u8) -> Start
 {
     let stage = s.stage;
     let role = role_at(stage);
+    let pair = Pair {
+        kb1: base::either(is_pair_one(role), v, s.pair.kb1),
+        kb2: base::either(is_pair_two(role), v, s.pair.kb2),
+    };
     Start {
         stage: next_stage(stage, v),
         address: s.address,
         sum: sum_after(s, v),
-        pair: Pair {
-            kb1: base::either(is_pair_one(role), v, s.pair.kb1),
-            kb2: base::either(is_pair_two(role), v, s.pair.kb2),
-        },
+        pair: pair,
     }
 }
 

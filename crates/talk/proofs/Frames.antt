@@ -15,10 +15,9 @@ use Rattle.base.specs.Choice.{if_then_else_}
 use Rattle.base.specs.Numbers.{taken, badForm, badLength, badChecksum}
 use Rattle.base.specs.Reports.{noReason, modeOne, wrongForm, wrongLength, wrongSum}
 use Rattle.base.specs.Sums.{byteSum}
-use Rattle.keys.specs.Keys.{goodPair, isGood, takesForm, lengthInFormat, extraLength}
+use Rattle.keys.specs.Keys.{goodPair, takesForm, lengthInFormat, extraLength}
 use Rattle.keys.specs.declared.Form.{Form}
 use Rattle.keys.specs.declared.Form.the-variants.{Plain, Physical, Functional, Foreign}
-use Rattle.keys.specs.declared.Pair.{Pair}
 use Rattle.frame.specs.Layout.{formatForm, addressCount, extraCount, headSize, total, checksumOf, isNowhere}
 use Rattle.frame.specs.Read.{placeRead, lengthRead, notLaid, laidOf, notRead, judged, readOf}
 use Rattle.frame.specs.declared.Reading.{Reading}
@@ -166,11 +165,9 @@ head-rule false false placed h = refl
 head-rule false true false h = refl
 head-rule false true true h = refl
 
-head-taken : (pair : Pair) (f : ℕ) → eqb (headReason pair f) noReason ≡ (takesForm (pair .kb1) (formatForm f) && placeAnnounced (pair .kb1) f)
+head-taken : (kb1 f : ℕ) → eqb (headReason kb1 f) noReason ≡ (takesForm kb1 (formatForm f) && placeAnnounced kb1 f)
 unfolding headReason
-head-taken pair f =
-    let kb1 = pair .kb1 in
-    head-rule (isModeOne (formatForm f)) (takesForm kb1 (formatForm f)) (placeAnnounced kb1 f) (mode-one kb1 (formatForm f))
+head-taken kb1 f = head-rule (isModeOne (formatForm f)) (takesForm kb1 (formatForm f)) (placeAnnounced kb1 f) (mode-one kb1 (formatForm f))
 
 -- a side is its own
 same-side : (side : Side) → sameSide side side ≡ true
@@ -262,14 +259,13 @@ both-ways true false x y h = refl
 both-ways false placed x y h = refl
 
 -- A MESSAGE THAT ENDS IN A FRAME IS EXACTLY A SLICE THAT `read` TAKES UNDER THE SAME KEY BYTES
-pub message-reads : (pair : Pair) (side : Side) (s : List ℕ) → isGood pair ≡ true → ((i : ℕ) → getD s i 0 < 256)
-    → isMessage pair side s ≡ eqb (readOf (pair .kb1) (pair .kb2) s .no) taken
+pub message-reads : (kb1 kb2 : ℕ) (side : Side) (s : List ℕ) → goodPair kb1 kb2 ≡ true → ((i : ℕ) → getD s i 0 < 256)
+    → isMessage kb1 side s ≡ eqb (readOf kb1 kb2 s .no) taken
 unfolding readOf laidOf judged begun hasExtra headSize lengthRead placeAnnounced
-message-reads pair side [] g byte = rw g
-message-reads pair side (f ∷ vs) g byte =
-    let kb1 = pair .kb1 in
+message-reads kb1 kb2 side [] g byte = rw g
+message-reads kb1 kb2 side (f ∷ vs) g byte =
     let z = eqb (f % 64) 0 in
-    rw (head-taken pair f, read-taken kb1 (pair .kb2) f vs g, place-rule kb1 f z (extraLength kb1) (lengthInFormat kb1) refl refl refl)
+    rw (head-taken kb1 f, read-taken kb1 kb2 f vs g, place-rule kb1 f z (extraLength kb1) (lengthInFormat kb1) refl refl refl)
     (both-ways (takesForm kb1 (formatForm f)) (placeAnnounced kb1 f) _ _ (λ e.
     rw (count-rule kb1 f z (extraLength kb1) (lengthInFormat kb1) refl refl refl e)
     (form-ends (formatForm f) z side (f % 64) f refl (omega arith) vs byte)))

@@ -6,7 +6,6 @@ use lib.Dec.{eqb}
 use lib.ListN.{length}
 use Rattle.base.specs.Choice.{if_then_else_}
 use Rattle.base.specs.Reports.{noReason}
-use Rattle.keys.specs.declared.Pair.{Pair}
 use Rattle.events.specs.declared.Side.{Side}
 use Rattle.talk.specs.Talk.{headReason, begun, laterReason, isSum, grown}
 use Rattle.talk.specs.declared.Message.{Message}
@@ -19,6 +18,6 @@ endsIn side m (v ∷ vs) =
     if isSum (m .part) then eqb (length vs) 0 else endsIn side (grown m v) vs
 
 -- bytes of one side are a message that ends in a frame with its last byte
-abbrev pub isMessage : Pair → Side → List ℕ → Bool
-isMessage pair side [] = false
-isMessage pair side (f ∷ vs) = if eqb (headReason pair f) noReason then endsIn side (begun side f) vs else false
+abbrev pub isMessage : ℕ → Side → List ℕ → Bool
+isMessage kb1 side [] = false
+isMessage kb1 side (f ∷ vs) = if eqb (headReason kb1 f) noReason then endsIn side (begun side f) vs else false

@@ -75,15 +75,15 @@ hasExtra f = eqb (f % 64) 0
 unfoldable pub placeAnnounced : ℕ → ℕ → Bool
 placeAnnounced kb1 f = if hasExtra f then extraLength kb1 else lengthInFormat kb1
 
-unfoldable pub headReason : Pair → ℕ → ℕ
-headReason pair f =
+unfoldable pub headReason : ℕ → ℕ → ℕ
+headReason kb1 f =
     if isModeOne (formatForm f) then modeOne else
-    if not (takesForm (pair .kb1) (formatForm f)) then wrongForm else
-    if placeAnnounced (pair .kb1) f then noReason else wrongLength
+    if not (takesForm kb1 (formatForm f)) then wrongForm else
+    if placeAnnounced kb1 f then noReason else wrongLength
 
 unfoldable pub firstReason : Pair → Reply → Windows → Side → ℕ → Micros → ℕ
 firstReason pair reply w side f gap =
-    if eqb (turnReason reply w side gap) noReason then headReason pair f else turnReason reply w side gap
+    if eqb (turnReason reply w side gap) noReason then headReason (pair .kb1) f else turnReason reply w side gap
 
 -- ---- a message: whose it is, the part that its next byte is, whether a length byte is among its parts, its length, how many data bytes have come,
 -- the sum of all bytes, the first data byte and the first seven of them. `why` is the reason of damage.

@@ -163,18 +163,18 @@ fn place_announced(kb1: u8, f: u8) -> bool
 }
 
 // The reason against a format byte.
-fn head_reason(pair: Pair, f: u8) -> u8
-    ensures { λ r. ⌜ r ≡ headReason pair f ⌝ }
+fn head_reason(kb1: u8, f: u8) -> u8
+    ensures { λ r. ⌜ r ≡ headReason kb1 f ⌝ }
 {
     let form = frame::format_form(f);
     if is_mode_one(form) {
         return base::reason::MODE_ONE;
     }
-    let taken = keys::takes_form(pair.kb1, form);
+    let taken = keys::takes_form(kb1, form);
     if !taken {
         return base::reason::WRONG_FORM;
     }
-    if place_announced(pair.kb1, f) {
+    if place_announced(kb1, f) {
         return base::reason::NONE;
     }
     base::reason::WRONG_LENGTH
@@ -186,7 +186,7 @@ pub fn first_reason(pair: Pair, reply: Reply, w: Windows, side: Side, f: u8, gap
 {
     let turn = turn_reason(reply, w, side, gap);
     if turn == base::reason::NONE {
-        return head_reason(pair, f);
+        return head_reason(pair.kb1, f);
     }
     turn
 }

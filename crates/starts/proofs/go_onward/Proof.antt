@@ -17,4 +17,4 @@ go-onward-spec =
     (λ c κs. search needs)
     (λ c κs. search needs)
     (λ c κs. search needs)
-    (λ c. rw (c .either2 .ensures, ← (c .before .before .before .before .before .before .role-at .ensures), ← (c .before .before .before .before .before .next-stage .ensures), ← (c .before .before .before .before .sum-after .ensures), ← (c .before .before .before .is-pair-one .ensures), ← (c .before .is-pair-two .ensures), c .before .before .either .ensures)))
+    (λ c. rw (c .sum-after .ensures, ← (c .before .before .before .before .before .before .role-at .ensures), ← (c .before .before .before .before .before .is-pair-one .ensures), ← (c .before .before .before .is-pair-two .ensures), ← (c .before .next-stage .ensures), c .before .before .either2 .ensures, c .before .before .before .before .either .ensures)))
