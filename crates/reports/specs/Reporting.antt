@@ -39,7 +39,7 @@ reportOf r number reason = record {
   reason = reason;
 }
 
--- behind the others, in the next place
+-- after the others, in the next place; where all places are taken, nothing
 unfoldable pub appended : Reports → Report → Reports
 appended rs r =
     if eqb (rs .n) 0 then record { a = r; b = rs .b; c = rs .c; n = 1 } else

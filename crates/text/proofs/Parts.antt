@@ -15,7 +15,7 @@ use Rattle.reports.specs.declared.Report.{Report}
 use Rattle.reports.specs.declared.Reports.{Reports}
 use Rattle.reports.specs.declared.Counts.{Counts}
 use Rattle.reports.proofs.Places.{listed-none}
-use Rattle.text.specs.Text.{space, placesOf, digitsOf, numberText, spacedText, lineText, reportText, reportsText, endText, put, fits, Writes, Puts}
+use Rattle.text.specs.Text.{space, digitCount, digitsOf, numberText, spacedText, lineText, reportText, reportsText, endText, put, fits, Writes, Puts}
 use Rattle.text.specs.Text.{numberMost, lineMost, reportsMost, endMost}
 use Rattle.text.proofs.Spelling.{length-digits}
 use Rattle.text.proofs.Laws.{put-put, length-put, put-nil, puts-nil, puts-join, reports-small}
@@ -25,7 +25,7 @@ pub put-one : (out : List ℕ) (i b : ℕ) → i < length out → set out i b �
 unfolding put
 put-one out i b h = let e : suc i ≡ i + 1 = omega arith in rw (set-split out i b h, e)
 
-pub number-puts : (at k n b : ℕ) (out o1 : List ℕ) → at + numberMost ≤ length out → k ≡ placesOf 19 n → k ≤ 20 → o1 ≡ put at (digitsOf k n) out
+pub number-puts : (at k n b : ℕ) (out o1 : List ℕ) → at + numberMost ≤ length out → k ≡ digitCount 19 n → k ≤ 20 → o1 ≡ put at (digitsOf k n) out
     → Puts at (numberText n b) numberMost out (at + k + 1) (set o1 (at + k) b)
 unfolding numberText
 number-puts at k n b out o1 h ek small e =
