@@ -32,7 +32,8 @@ pub record Turn (l : Lister) (s : List ℕ) (at k : ℕ) (y : Lister) : Type 0 w
   pub within : at + k ≤ length s
   pub same : y ≡ fedBy l (take (at + k) s)
 
-turn-by : (l x : Lister) (s d out : List ℕ) (at : ℕ) (p : Part) (after : List ℕ) → d ≡ drop at s → at < length s → answerMost ≤ length out → Parted x d out p after
+turn-by : (l x : Lister) (s d out : List ℕ) (at : ℕ) (p : Part) (after : List ℕ) → d ≡ drop at s → at < length s → answerMost ≤ length out
+    → Parted x d out p after
     → x ≡ fedBy l (take at s) → Turn l s at (p .at) (p .lister)
 turn-by l x s d out at p after e h k q g =
     let n = length out in
