@@ -1,11 +1,8 @@
 -- Demand 3's work: what is named and then what is held is what was heard, and the counts add up. Assumes nothing.
 use Prim.Native.Nat.{ℕ, _+_, _-_, _≤_}
-use mathlib.Core.List.{List, [], _∷_, _++_}
-use mathlib.Core.Bool.{Bool, true, false}
-use lib.Dec.{eqb}
-use Rattle.base.specs.Choice.{if_then_else_}
+use mathlib.Core.List.{List, _++_}
+use mathlib.Core.Bool.{false}
 use Rattle.phases.specs.Phases.{isStarting, isOpen}
-use Rattle.reports.specs.declared.Reports.{Reports}
 use mathlib.Core.Path.{_≡_, sym, ap, _∙_}
 use native.Mathlib.Nat.{sub-zero}
 use native.Mathlib.Omega.{arith}
@@ -14,6 +11,7 @@ use Rattle.events.specs.declared.Event.{Event}
 use Rattle.reports.specs.Reporting.{listed}
 use Rattle.reports.specs.declared.Report.{Report}
 use Rattle.reports.specs.declared.Counts.{Counts}
+use Rattle.reports.proofs.Places.{listed-few}
 use Rattle.link.specs.Stepping.{takenBy}
 use Rattle.link.specs.declared.Link.{Link}
 use Rattle.link.specs.declared.Answer.{Answer}
@@ -45,17 +43,6 @@ held-none : (l : Link) → l .named ≡ l .heard → heldOf l ≡ 0
 unfolding heldOf
 held-none l e = omega arith
 
--- three places
-pub listed-three : (rs : Reports) → length (listed rs) ≤ 3
-unfolding listed
-listed-three rs = by (eqb (rs .n) 0) (eqb (rs .n) 1) (eqb (rs .n) 2)
-  where
-    by : (a b c : Bool) → length (if a then [] else if b then rs .a ∷ [] else if c then rs .a ∷ rs .b ∷ [] else rs .a ∷ rs .b ∷ rs .c ∷ []) ≤ 3
-    by true b c = omega arith
-    by false true c = omega arith
-    by false false true = omega arith
-    by false false false = omega arith
-
 -- beside demand 3: none is held while neither a message, nor damage, nor an initialization is open
 pub idle-none : (es : Log) → isOpen (after ours es .link .phase .state) ≡ false → isStarting (after ours es .link .phase .state) ≡ false → heldIn ours es ≡ 0
 idle-none es o s = sym (held-is es) ∙ held-none (after ours es .link) (calm es o s)
@@ -72,7 +59,7 @@ accounted es =
       indexes = tiled-turns (k .tiled);
       counts = k .counts;
       held = held-is es;
-      three = λ e. listed-three (ourAnswer es e .reports);
+      three = λ e. listed-few (ourAnswer es e .reports);
     }
 
 -- no byte is missing from the counts

@@ -21,45 +21,27 @@ use Rattle.demands.specs.Accounts.{bytesIn, reportsIn, countsOf, added}
 use Rattle.demands.proofs.Numbering.{Small}
 use Rattle.demands.proofs.Tiling.{Tiled, end, next, sum-is}
 
--- ---- the reports in the three places are counted as their list is
-unfoldable countedList : Counts → List Report → Counts
-countedList c [] = c
-countedList c (x ∷ xs) = countedList (countedOne c x) xs
-
-all-by : (a b d : Bool) (c : Counts) (x y z : Report)
-    → (if a then c else if b then countedOne c x else if d then countedOne (countedOne c x) y else countedOne (countedOne (countedOne c x) y) z)
-    ≡ countedList c (if a then [] else if b then x ∷ [] else if d then x ∷ y ∷ [] else x ∷ y ∷ z ∷ [])
-unfolding countedList
-all-by true b d c x y z = refl
-all-by false true d c x y z = refl
-all-by false false true c x y z = refl
-all-by false false false c x y z = refl
-
-all-listed : (c : Counts) (rs : Reports) → countedAll c rs ≡ countedList c (listed rs)
-unfolding countedAll listed
-all-listed c rs = all-by (eqb (rs .n) 0) (eqb (rs .n) 1) (eqb (rs .n) 2) c (rs .a) (rs .b) (rs .c)
-
-list-heard : (xs : List Report) (c : Counts) → countedList c xs .heard ≡ c .heard
-unfolding countedList countedOne
-list-heard [] c = refl
-list-heard (x ∷ xs) c = list-heard xs (countedOne c x)
+-- ---- no report raises the bytes heard
+heard-kept : (xs : List Report) (c : Counts) → countedAll c xs .heard ≡ c .heard
+unfolding countedAll countedOne
+heard-kept [] c = refl
+heard-kept (x ∷ xs) c = heard-kept xs (countedOne c x)
 
 -- ---- a count π that a report x raises by f x, and g of reports: the sum of what each raises it by
 module _ (π : Counts → ℕ) (f : Report → ℕ) (g : List Report → ℕ) (raised : (c : Counts) (x : Report) → π (countedOne c x) ≡ countSum (π c) (f x))
     (none : g [] ≡ 0) (more : (x : Report) (xs : List Report) → g (x ∷ xs) ≡ f x + g xs) where
-  list-raised : (xs : List Report) (c : Counts) → π c + g xs ≤ greatest → π (countedList c xs) ≡ π c + g xs
-  unfolding countedList
-  list-raised [] c h = omega (arith, none)
-  list-raised (x ∷ xs) c h =
+  all-raised : (xs : List Report) (c : Counts) → π c + g xs ≤ greatest → π (countedAll c xs) ≡ π c + g xs
+  unfolding countedAll
+  all-raised [] c h = omega (arith, none)
+  all-raised (x ∷ xs) c h =
       let k = more x xs in
       let s = raised c x ∙ sum-is (π c) (f x) (omega arith) in
-      list-raised xs (countedOne c x) (omega arith) ∙ omega arith
+      all-raised xs (countedOne c x) (omega arith) ∙ omega arith
 
   event-raised : (c : Counts) (b : Bool) (rs : Reports) → π (countedByte c b) ≡ π c → π c + g (listed rs) ≤ greatest
       → π (countedEvent c b rs) ≡ π c + g (listed rs)
   unfolding countedEvent
-  event-raised c b rs same h =
-      ap π (all-listed (countedByte c b) rs) ∙ list-raised (listed rs) (countedByte c b) (omega arith) ∙ omega arith
+  event-raised c b rs same h = all-raised (listed rs) (countedByte c b) (omega arith) ∙ omega arith
 
 -- ---- reports one behind the other: the bytes in the four counts are those named, and reports 1 and 2 are no more than their bytes
 pub record Sums (n m : ℕ) (xs : List Report) : Type 0 where
@@ -102,7 +84,7 @@ counted-lent c b v rs n m small t h =
     let s = tiled-sums t in
     let all = listed rs in
     let p1 : countedEvent c b rs .heard ≡ c .heard + length (if b then v ∷ [] else []) =
-    ap (λ (d : Counts). d .heard) (all-listed (countedByte c b) rs) ∙ list-heard all (countedByte c b) ∙ byte-raised b v (c .heard) (omega (arith, small .heard)) in
+    heard-kept all (countedByte c b) ∙ byte-raised b v (c .heard) (omega (arith, small .heard)) in
     let p2 : countedEvent c b rs .framed ≡ c .framed + bytesIn frameReport all =
     event-raised (λ (d : Counts). d .framed) (λ (x : Report). share (eqb (x .number) frameReport) (x .bytes)) (bytesIn frameReport)
     (λ d x. refl) refl (λ x ys. refl) c b rs refl (omega (arith, small .framed, s .all)) in

@@ -1,7 +1,6 @@
 -- DEMAND 2: behind any events from a fresh link, an event is answered with report 3 exactly if it is taken and completes a good initialization: a
 -- condition on the events taken before it, and on no link.
 -- Assumes nothing.
-use Prim.Native.Nat.{_+_, _≤_}
 use mathlib.Core.Bool.{Bool, true, false, false≢true}
 use mathlib.Core.Logic.{_↔_, _⊎_, inl, inr}
 use mathlib.Core.Path.{_≡_, _∙_, refl, sym, ap}
@@ -31,7 +30,7 @@ use Rattle.demands.proofs.Invariant.{timely}
 use Rattle.demands.proofs.Basics.{basics, answer-taken, answer-refused}
 use Rattle.demands.proofs.Completing.{Completes, says-completes, completes-says}
 use Rattle.demands.proofs.Running.{startOn, Starts, Done, runs-starts, Behind, Inv, inv-on, inv-fresh, Ends, ends-of, completes-of}
-use Rattle.demands.proofs.Waking.{runs-idle}
+use Rattle.demands.proofs.Waking.{Waited, runs-idle}
 use Rattle.demands.proofs.Slowly.{slow-done, done-slow}
 use Rattle.demands.proofs.Fastly.{fast-done, done-fast}
 use Rattle.demands.specs.Ours.{ours}
@@ -67,7 +66,7 @@ module _ (log : Log) (e : Event) (x : Ends log e) where
   connects-of : Connects log e
   connects-of = connects-by (x .start .kind) refl (runs-starts m (x .start) (x .bytes) (x .done .0))
 
-pub done-of : (m : Micros) (a : Event) (pair : Pair) (bs : Log) (e : Event) → m .0 + 300_000 ≤ a .start .0
+pub done-of : (m : Micros) (a : Event) (pair : Pair) (bs : Log) (e : Event) → Waited m a
     → SlowStart a pair (bs ▷ e) ⊎ FastStart a pair (bs ▷ e)
     → Done m a bs e × (startOn a bs .pair ≡ pair) × (isGood pair ≡ true)
 done-of m a pair bs e i (inl s) = done-slow m a pair bs e i s

@@ -16,6 +16,7 @@ use Rattle.events.specs.declared.Side.{Side}
 use Rattle.events.specs.declared.Side.the-variants.{Tester, Unit, Nobody}
 use Rattle.events.specs.declared.Event.{Event}
 use Rattle.demands.specs.Logs.{Log, none, _▷_, clockOf, markOf, countOf, heardOf, numberAfter, takenOf}
+use Rattle.demands.specs.Idle.{idleUntil}
 use Rattle.demands.specs.Histories.{reportsTo}
 use Rattle.demands.specs.Starts.{IsOne, SlowStart, slow, request, addressed, FastStart, fast}
 use Rattle.demands.specs.Connecting.{here, byte, Connects}
@@ -60,7 +61,7 @@ fast-good =
     (refl, (omega arith, omega arith), refl) (refl, (omega arith, omega arith), tt) (refl, (omega arith, omega arith), tt)
     (refl, (omega arith, omega arith), (refl, refl))
 
-pub fast-idle : markOf none .0 + 300_000 ≤ wakeUp .start .0
+pub fast-idle : idleUntil none ≤ wakeUp .start .0
 unfolding markOf
 fast-idle = omega arith
 
@@ -102,7 +103,7 @@ slow-good =
     refl (refl, (omega arith, omega arith), refl) (refl, (omega arith, omega arith), tt) (refl, (omega arith, omega arith), refl)
     (refl, (omega arith, omega arith), refl) (refl, (omega arith, omega arith), refl)
 
-pub slow-idle : markOf slowBefore .0 + 300_000 ≤ asked .start .0
+pub slow-idle : idleUntil slowBefore ≤ asked .start .0
 unfolding markOf marks
 slow-idle = omega arith
 

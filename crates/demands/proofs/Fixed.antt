@@ -17,7 +17,8 @@ use Rattle.events.specs.declared.Kind.{Kind}
 use Rattle.events.specs.declared.Kind.the-variants.{Address, WakeUp, Byte, Tick, Drop, Other}
 use Rattle.events.specs.declared.Event.{Event}
 use Rattle.reports.specs.declared.Report.{Report}
-use Rattle.demands.specs.Logs.{Log, none, _▷_, markOf, heardOf, heardIn, numberAfter, takenOf, InBytes}
+use Rattle.demands.specs.Logs.{Log, none, _▷_, heardOf, heardIn, numberAfter, takenOf, InBytes}
+use Rattle.demands.specs.Idle.{idleUntil}
 use Rattle.demands.specs.Refusals.{Not}
 use Rattle.demands.specs.Histories.{Machine, reportsTo, reportsOf, isAmong, Says, Among}
 use Rattle.demands.specs.Accounts.{InTurn, namedBy, namedIn, heldIn}
@@ -132,8 +133,8 @@ record New (es : Log) (e : Event) : Type 0 where
   pub low : Not (WrongLow (takenOf es) e)
 
 new : (es : Log) (e : Event) → Decided (New es e)
-new es e = all (equal (numberAfter (takenOf es) e) taken) (kind-starts (e .kind)) (never (both (kind-starts (e .kind)) (less (e .start .0) (markOf (takenOf es) .0 + 300_000))))
-    (never (all-three (kind-wakes (e .kind)) (at-most (markOf (takenOf es) .0 + 300_000) (e .start .0)) (never (low e))))
+new es e = all (equal (numberAfter (takenOf es) e) taken) (kind-starts (e .kind)) (never (both (kind-starts (e .kind)) (less (e .start .0) (idleUntil (takenOf es)))))
+    (never (all-three (kind-wakes (e .kind)) (at-most (idleUntil (takenOf es)) (e .start .0)) (never (low e))))
   where
     all : Decided (numberAfter (takenOf es) e ≡ taken) → Decided (Starter e) → Decided (Not (NotIdle (takenOf es) e)) → Decided (Not (WrongLow (takenOf es) e)) → Decided (New es e)
     all (inr n) b c d = inr (λ x. n (x .number))

@@ -2,7 +2,7 @@
 -- wake-up of a wrong low, report 6 exactly where a first reply stayed out, and report 7 by its reason exactly where P3 max passed, at a drop, and at a
 -- restart; 6 and 7 come in a session only. (Report 7 reason 1 is `stops-exactly`.)
 -- Assumes nothing.
-use Prim.Native.Nat.{ℕ, _+_, _≤_, _<_}
+use Prim.Native.Nat.{ℕ, _≤_, _<_}
 use mathlib.Core.Bool.{Bool, true, false, false≢true}
 use mathlib.Core.Path.{_≡_, refl, sym, ap, _∙_}
 use mathlib.Core.Logic.{_↔_, _⊎_, ⊎-elim}
@@ -25,6 +25,7 @@ use Rattle.link.specs.declared.Link.{Link}
 use Rattle.listing.specs.Listing.{heldOf}
 use Rattle.phases.proofs.StateTests.{quiet-connected}
 use Rattle.demands.specs.Logs.{Log, markOf, numberAfter, takenOf, InBytes}
+use Rattle.demands.specs.Idle.{idleUntil}
 use Rattle.demands.specs.Refusals.{Not}
 use Rattle.demands.specs.Histories.{after, reportsTo, Says, Tells}
 use Rattle.demands.specs.Starts.{Low}
@@ -53,13 +54,13 @@ wrong-low e = (λ f w. false≢true (sym f ∙ good-low e .1 w), by-test-of (isG
     by-test-of false g n = g
 
 -- the link's mark is the history's
-pub mark-not-idle : (es : Log) (e : Event) → (isIdle (after ours es .link .mark) (e .start) ≡ false) ↔ (e .start .0 < markOf (takenOf es) .0 + 300_000)
+pub mark-not-idle : (es : Log) (e : Event) → (isIdle (after ours es .link .mark) (e .start) ≡ false) ↔ (e .start .0 < idleUntil (takenOf es))
 mark-not-idle es e =
     let m = ap (λ (x : Micros). isIdle x (e .start)) (basics es .mark) in
     let t = not-idle-time (markOf (takenOf es)) (e .start) in
     (λ i. t .0 (sym m ∙ i), λ h. m ∙ t .1 h)
 
-pub mark-idle : (es : Log) (e : Event) → (isIdle (after ours es .link .mark) (e .start) ≡ true) ↔ (markOf (takenOf es) .0 + 300_000 ≤ e .start .0)
+pub mark-idle : (es : Log) (e : Event) → (isIdle (after ours es .link .mark) (e .start) ≡ true) ↔ (idleUntil (takenOf es) ≤ e .start .0)
 mark-idle es e =
     let m = ap (λ (x : Micros). isIdle x (e .start)) (basics es .mark) in
     let t = idle-time (markOf (takenOf es)) (e .start) in

@@ -19,6 +19,7 @@ use Rattle.events.specs.declared.Event.{Event}
 use Rattle.phases.specs.Phases.{down}
 use Rattle.reports.specs.Reporting.{appended, listed}
 use Rattle.reports.specs.Counting.{countedEvent}
+use Rattle.reports.proofs.Places.{listed-few}
 use Rattle.reports.specs.declared.Report.{Report}
 use Rattle.reports.specs.declared.Counts.{Counts}
 use Rattle.link.specs.Handling.{freshLink, markAfter}
@@ -37,7 +38,7 @@ use Rattle.demands.proofs.Numbering.{number-numbered, not-above-small}
 use Rattle.demands.proofs.Counting.{tiled-sums, counted-lent, counted-event}
 use Rattle.demands.proofs.Naming.{tiled-turns, tiled-named}
 use Rattle.demands.proofs.Invariant.{Kept, kept-small, kept-of, number-is, timely, mark-order, mark-more, heard-more, few-more, refused-answer}
-use Rattle.demands.proofs.Accounting.{all-heard, listed-three}
+use Rattle.demands.proofs.Accounting.{all-heard}
 
 -- what a host keeps behind an event that it takes
 abbrev nextHost : Host Link → Event → Host Link
@@ -155,7 +156,7 @@ outside-accounted es =
       indexes = tiled-turns (a .kept .tiled);
       counts = a .kept .counts;
       held = held-none es ∙ sym (held-nothing es);
-      three = λ e. listed-three (outsideStep l (after outside es .counts) e .answer .reports);
+      three = λ e. listed-few (outsideStep l (after outside es .counts) e .answer .reports);
     }
 
 -- NO BYTE IS MISSING FROM THE COUNTS

@@ -1,4 +1,4 @@
--- No event fills more than the three places for reports. (That none of its reports is lost there is `none-lost`.) Assumes nothing.
+-- No event fills more than the places for reports. (That none of its reports is lost there is `none-lost`.) Assumes nothing.
 use Prim.Native.Nat.{ℕ, _≤_}
 use native.Mathlib.Omega.{arith}
 use lib.Dec.{eqb}
@@ -9,31 +9,25 @@ use Rattle.events.specs.declared.Kind.{Kind}
 use Rattle.events.specs.declared.Kind.the-variants.{Address, WakeUp, Byte, Tick, Drop, Other}
 use Rattle.events.specs.declared.Event.{Event}
 use Rattle.moves.specs.declared.Move.{Move}
-use Rattle.reports.specs.Reporting.{appended, told, moved}
-use Rattle.reports.specs.declared.Report.{Report}
+use Rattle.reports.specs.Reporting.{places, told, moved}
 use Rattle.reports.specs.declared.Reports.{Reports}
 use Rattle.reports.specs.declared.Counts.{Counts}
 use Rattle.reports.specs.declared.Run.{Run}
+use Rattle.reports.proofs.Places.{appended-few}
 use Rattle.link.specs.Handling.{passed, shut, byteHeard, actedBy, acted, begun, handled}
 use Rattle.link.specs.Stepping.{numberOf, refusedBy, takenBy, answerOf, stepOf}
 use Rattle.link.specs.declared.Link.{Link}
 use Rattle.link.specs.declared.Answer.{Answer}
 
 abbrev Placed : Reports → Type 0
-Placed rs = rs .n ≤ 3
+Placed rs = rs .n ≤ places
 
 abbrev PlacedIn : Run → Type 0
 PlacedIn r = Placed (r .reports)
 
-appended-placed : (rs : Reports) (x : Report) → Placed rs → Placed (appended rs x)
-unfolding appended
-appended-placed rs x h =
-    by-test Placed (eqb (rs .n) 0) (λ _. omega arith)
-    (λ _. by-test Placed (eqb (rs .n) 1) (λ _. omega arith) (λ _. by-test Placed (eqb (rs .n) 2) (λ _. omega arith) (λ _. h)))
-
 moved-placed : (r : Run) (m : Move) → PlacedIn r → PlacedIn (moved r m)
 unfolding moved told
-moved-placed r m h = by-test PlacedIn (eqb (m .number) 0) (λ _. h) (λ _. appended-placed (r .reports) _ h)
+moved-placed r m h = by-test PlacedIn (eqb (m .number) 0) (λ _. h) (λ _. appended-few (r .reports) _ h)
 
 passed-placed : (r : Run) (mark start : Micros) → PlacedIn r → PlacedIn (passed r mark start)
 unfolding passed
@@ -60,7 +54,7 @@ unfolding handled acted begun
 handled-placed l e = acted-placed (e .kind) _ e (l .mark) (passed-placed (begun l e) (l .mark) (e .start) (omega arith))
 
 -- of any link, for any counts and any event
-pub step-placed : (l : Link) (c : Counts) (e : Event) → stepOf l c e .answer .reports .n ≤ 3
+pub step-placed : (l : Link) (c : Counts) (e : Event) → stepOf l c e .answer .reports .n ≤ places
 unfolding stepOf answerOf takenBy refusedBy
 step-placed l c e =
     by-test (λ (a : Answer). Placed (a .reports)) (eqb (numberOf l c e) taken) (λ _. handled-placed l e) (λ _. omega arith)

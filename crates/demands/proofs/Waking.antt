@@ -13,24 +13,24 @@ use Rattle.units.specs.declared.Micros.{Micros}
 use Rattle.events.specs.declared.Kind.{Kind}
 use Rattle.events.specs.declared.Kind.the-variants.{Address, WakeUp, Byte, Tick, Drop, Other}
 use Rattle.events.specs.declared.Event.{Event}
-use Rattle.moves.specs.Moves.{isIdle, isGoodLow}
+use Rattle.moves.specs.Moves.{idleTime, isIdle, isGoodLow}
 use Rattle.demands.specs.Logs.{Log}
 use Rattle.demands.specs.Starts.{Low}
 use Rattle.demands.proofs.Running.{Starts, Runs, runs-starts}
 
 -- ---- idle long enough
-pub not-idle-time : (mark start : Micros) → (isIdle mark start ≡ false) ↔ (start .0 < mark .0 + 300_000)
+pub not-idle-time : (mark start : Micros) → (isIdle mark start ≡ false) ↔ (start .0 < mark .0 + idleTime .0)
 unfolding isIdle
 not-idle-time mark start = (
-  λ i. let h = ltb-true (start .0 - mark .0) 300_000 (not-false (ltb (start .0 - mark .0) 300_000) i) in omega arith,
-  λ h. ap not (lt-ltb (start .0 - mark .0) 300_000 (omega arith)),
+  λ i. let h = ltb-true (start .0 - mark .0) (idleTime .0) (not-false (ltb (start .0 - mark .0) (idleTime .0)) i) in omega arith,
+  λ h. ap not (lt-ltb (start .0 - mark .0) (idleTime .0) (omega arith)),
 )
 
-pub idle-time : (mark start : Micros) → (isIdle mark start ≡ true) ↔ (mark .0 + 300_000 ≤ start .0)
+pub idle-time : (mark start : Micros) → (isIdle mark start ≡ true) ↔ (mark .0 + idleTime .0 ≤ start .0)
 unfolding isIdle
 idle-time mark start = (
-  λ i. let h = ltb-false (start .0 - mark .0) 300_000 (not-true (ltb (start .0 - mark .0) 300_000) i) in omega arith,
-  λ h. ap not (le-ltb (start .0 - mark .0) 300_000 (omega arith)),
+  λ i. let h = ltb-false (start .0 - mark .0) (idleTime .0) (not-true (ltb (start .0 - mark .0) (idleTime .0)) i) in omega arith,
+  λ h. ap not (le-ltb (start .0 - mark .0) (idleTime .0) (omega arith)),
 )
 
 -- ---- low long enough
@@ -50,7 +50,11 @@ good-low e =
     )
 
 -- ---- so a run starts behind an idle line
-starts-idle : (k : Kind) (m : Micros) (a : Event) → Starts k m a → m .0 + 300_000 ≤ a .start .0
+-- an event that comes as long after this mark as an address or wake-up needs
+abbrev pub Waited : Micros → Event → Type 0
+Waited mark a = mark .0 + idleTime .0 ≤ a .start .0
+
+starts-idle : (k : Kind) (m : Micros) (a : Event) → Starts k m a → Waited m a
 starts-idle Address m a s = idle-time m (a .start) .0 s
 starts-idle WakeUp m a s = idle-time m (a .start) .0 (s .0)
 starts-idle Byte m a s = absurd s
@@ -58,5 +62,5 @@ starts-idle Tick m a s = absurd s
 starts-idle Drop m a s = absurd s
 starts-idle Other m a s = absurd s
 
-pub runs-idle : (m : Micros) (a : Event) (bs : Log) → Runs m a bs → m .0 + 300_000 ≤ a .start .0
+pub runs-idle : (m : Micros) (a : Event) (bs : Log) → Runs m a bs → Waited m a
 runs-idle m a bs r = starts-idle (a .kind) m a (runs-starts m a bs r)

@@ -15,7 +15,7 @@ use Rattle.talk.specs.declared.Reply.the-variants.{Never}
 use Rattle.talk.specs.declared.Request.the-variants.{Ordinary}
 use Rattle.phases.specs.Phases.{isStarting, isOpen, isConnected}
 use Rattle.phases.specs.declared.State.the-variants.{Quiet}
-use Rattle.reports.specs.Reporting.{noReports, listed}
+use Rattle.reports.specs.Reporting.{places, noReports, listed}
 use Rattle.events.specs.declared.Event.{Event}
 use Rattle.link.specs.declared.Link.{Link}
 use Rattle.link.specs.declared.Answer.{Answer}
@@ -82,7 +82,7 @@ pub record Beside : Type 0 where
   -- No byte is held while neither a message, nor damage, nor an initialization is open.
   pub idle : (es : Log) → isOpen (after ours es .link .phase .state) ≡ false → isStarting (after ours es .link .phase .state) ≡ false → heldIn ours es ≡ 0
   -- An answer never says that more than its three places are filled, for any link; and ..
-  pub three-places : (l : Link) (c : Counts) (e : Event) → stepOf l c e .answer .reports .n ≤ 3
+  pub three-places : (l : Link) (c : Counts) (e : Event) → stepOf l c e .answer .reports .n ≤ places
   -- .. NO REPORT IS LOST: those in the three places of an answer to an event that was taken are the reports of all its moves, in order.
   pub none-lost : (es : Log) (e : Event) → ourAnswer es e .no ≡ 0 → listed (ourAnswer es e .reports) ≡ handledTells (after ours es .link) e
   -- UP TO THE TEXT, for every input, whatever bytes it is of: its listing is the header, what is written for the events of its lines, in order, and an end

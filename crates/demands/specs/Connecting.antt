@@ -10,7 +10,8 @@ use Rattle.keys.specs.declared.Pair.{Pair}
 use Rattle.events.specs.declared.Kind.the-variants.{Byte, Tick}
 use Rattle.events.specs.declared.Event.{Event}
 use Rattle.reports.specs.declared.Report.{Report}
-use Rattle.demands.specs.Logs.{Log, none, _▷_, markOf, heardOf}
+use Rattle.demands.specs.Logs.{Log, none, _▷_, heardOf}
+use Rattle.demands.specs.Idle.{idleUntil}
 use Rattle.demands.specs.Editions.{isLinkPair}
 use Rattle.demands.specs.Starts.{SlowStart, FastStart}
 
@@ -28,7 +29,7 @@ pub record Connects (log : Log) (e : Event) : Type 0 where
   pub bytes : Log
   pub pair : Pair
   pub since : Since start before log bytes
-  pub idle : markOf before .0 + 300_000 ≤ start .start .0
+  pub idle : idleUntil before ≤ start .start .0
   pub last : e .kind ≡ Byte
   pub good : SlowStart start pair (bytes ▷ e) ⊎ FastStart start pair (bytes ▷ e)
 

@@ -76,7 +76,7 @@ pub record DemandTwo (m : Machine) : Type 0 where
   pub foundation : Foundation
   -- ---- b. THE LINK CONNECTS EXACTLY when every byte, complement and window of an initialization holds
   -- Over every list of events from a fresh link: the next event is answered with report 3 exactly if it is taken and completes an initialization. Which
-  -- events are taken, and what completes one, is said of the events alone (specs/Logs.antt, Connecting.antt, Starts.antt).
+  -- events are taken, and what completes one, is said of the events alone (specs/Logs.antt, Connecting.antt, Idle.antt, Starts.antt).
   pub connects-exactly : (es : Log) (e : Event)
       → Says connectedReport (reportsTo m es e) ↔ ((numberAfter (takenOf es) e ≡ taken) × Connects (takenOf es) e)
   -- That report is the only one of its event and names all bytes of the initialization and no other; its key bytes are good.
@@ -130,7 +130,7 @@ pub record DemandTwo (m : Machine) : Type 0 where
   -- Outside a session there is neither.
   pub only-in-session : (es : Log) (e : Event) → InBytes es
       → Says noReplyReport (reportsTo m es e) ⊎ Says downReport (reportsTo m es e) → SomeSession m es
-  -- Report 8 exactly if an address or a wake-up comes before 300 ms are over since the mark; ..
+  -- Report 8 exactly if an address or a wake-up comes before its idle time is over; ..
   pub not-idle-exactly : (es : Log) (e : Event)
       → Says notIdleReport (reportsTo m es e) ↔ ((numberAfter (takenOf es) e ≡ taken) × NotIdle (takenOf es) e)
   -- .. report 4 with reason 3 exactly if a wake-up comes later, and is low for less than 24 or more than 26 ms.

@@ -1,7 +1,7 @@
 -- What ends an initialization and a session, told by the history (document 01, "Events and what the link does"). That a link's reports are exactly
 -- these is stated in DemandTwo.antt.
 -- Assumes nothing.
-use Prim.Native.Nat.{ℕ, _+_, _≤_, _<_}
+use Prim.Native.Nat.{ℕ, _≤_, _<_}
 use mathlib.Core.Bool.{true}
 use mathlib.Core.List.{List}
 use mathlib.Core.Path.{_≡_}
@@ -12,9 +12,10 @@ use Rattle.events.specs.declared.Kind.the-variants.{Address, WakeUp, Drop}
 use Rattle.frame.specs.Read.{dataOf}
 use Rattle.events.specs.declared.Side.the-variants.{Unit}
 use Rattle.events.specs.declared.Event.{Event}
-use Rattle.demands.specs.Logs.{Log, _▷_, markOf, numberAfter, takenOf}
+use Rattle.demands.specs.Logs.{Log, _▷_, numberAfter, takenOf}
 use Rattle.demands.specs.Refusals.{Not}
 use Rattle.demands.specs.Histories.{Machine, reportsTo, Says, Tells}
+use Rattle.demands.specs.Idle.{idleUntil}
 use Rattle.demands.specs.Starts.{Low}
 use Rattle.demands.specs.Accounts.{heldIn}
 use Rattle.demands.specs.Sessions.{stops, pendingIn, Talk, gapBefore, IdleOver}
@@ -26,13 +27,13 @@ Starter e = (e .kind ≡ Address) ⊎ (e .kind ≡ WakeUp)
 
 -- "A or W needs 300 ms from the old mark to its start, else report 8 and down"
 abbrev pub NotIdle : Log → Event → Type 0
-NotIdle log e = Starter e × (e .start .0 < markOf log .0 + 300_000)
+NotIdle log e = Starter e × (e .start .0 < idleUntil log)
 
--- "Low for 24 to 26 ms, else report 4 reason 3 at once."; the 300 ms are "judged before the length of the low"
+-- "Low for 24 to 26 ms, else report 4 reason 3 at once."; the idle time is "judged before the length of the low"
 abbrev pub WrongLow : Log → Event → Type 0
-WrongLow log e = (e .kind ≡ WakeUp) × (markOf log .0 + 300_000 ≤ e .start .0) × Not (Low e)
+WrongLow log e = (e .kind ≡ WakeUp) × (idleUntil log ≤ e .start .0) × Not (Low e)
 
--- ---- AN INITIALIZATION of the history: from an address or wake-up on that comes 300 ms or more behind the mark and, if a wake-up, is low for 24 to 26 ms, as
+-- ---- AN INITIALIZATION of the history: from an address or wake-up on that was idle long enough and, if a wake-up, is low for 24 to 26 ms, as
 -- long as no report 3 or 4 is made.
 pub data Starting (m : Machine) : Log → Type 0 where
   starts : {es : Log} {e : Event} → numberAfter (takenOf es) e ≡ taken → Starter e → Not (NotIdle (takenOf es) e) → Not (WrongLow (takenOf es) e)

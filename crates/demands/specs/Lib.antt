@@ -8,6 +8,7 @@ pub mod Ours
 pub mod OurLink
 pub mod Orders
 pub mod Starts
+pub mod Idle
 pub mod Connecting
 pub mod Accounts
 pub mod Inputs

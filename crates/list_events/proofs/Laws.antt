@@ -6,7 +6,7 @@ use lib.ListN.{length, take, drop, length-drop}
 use lib.Seq.{take-all, take-add}
 use native.Mathlib.Omega.{arith}
 use Rattle.listing.specs.Listing.{Feed, feed}
-use Rattle.listing.specs.Parts.{partOf, Parted}
+use Rattle.listing.specs.Parts.{answerMost, partOf, Parted}
 use Rattle.listing.specs.declared.Lister.{Lister}
 use Rattle.listing.specs.declared.Part.{Part}
 use Rattle.listing.proofs.Cuts.{feed-said, feed-append, part-fed, reads-on, part-within}
@@ -32,7 +32,8 @@ pub record Turn (l : Lister) (s : List ℕ) (at k : ℕ) (y : Lister) : Type 0 w
   pub within : at + k ≤ length s
   pub same : y ≡ fedBy l (take (at + k) s)
 
-turn-by : (l x : Lister) (s d out : List ℕ) (at : ℕ) (p : Part) (after : List ℕ) → d ≡ drop at s → at < length s → 315 ≤ length out → Parted x d out p after
+turn-by : (l x : Lister) (s d out : List ℕ) (at : ℕ) (p : Part) (after : List ℕ) → d ≡ drop at s → at < length s → answerMost ≤ length out
+    → Parted x d out p after
     → x ≡ fedBy l (take at s) → Turn l s at (p .at) (p .lister)
 turn-by l x s d out at p after e h k q g =
     let n = length out in
@@ -46,7 +47,7 @@ turn-by l x s d out at p after e h k q g =
           ∙ rw (r, take-add at (partOf x d n .at) s, fed-append l (take at s) (take (partOf x d n .at) (drop at s)), ← g, ← e) refl);
     }
 
-pub turn : (l x : Lister) (s out : List ℕ) (at : ℕ) (p : Part) (after : List ℕ) → at < length s → 315 ≤ length out
+pub turn : (l x : Lister) (s out : List ℕ) (at : ℕ) (p : Part) (after : List ℕ) → at < length s → answerMost ≤ length out
     → Parted x (take (length s - at) (drop at s)) out p after → x ≡ fedBy l (take at s) → Turn l s at (p .at) (p .lister)
 turn l x s out at p after h k q g =
     turn-by l x s (take (length s - at) (drop at s)) out at p after (take-all (length s - at) (drop at s) (omega (arith, length-drop at s))) h k q g

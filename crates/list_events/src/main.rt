@@ -2,6 +2,7 @@
 // listing to standard output. It reads 64 KiB at a time and keeps nothing but the lister.
 ghost use Prim.Native.Nat.{_≤_};
 ghost use lib.ListN.{length};
+ghost use Rattle.listing.specs.Parts.{answerMost, endingMost};
 ghost use Rattle.list_events.specs.Sending.{Listed};
 use libc::STDERR_FILENO;
 use libc::STDIN_FILENO;
@@ -26,7 +27,7 @@ fn send(text: &[u8]) -> bool {
 
 // Lists a part of the input, one buffer after another.
 fn list(l: Lister, s: &[u8], out: &mut [u8]) -> Sent
-    requires { ⌜ 315 ≤ length (now out) ⌝ }
+    requires { ⌜ answerMost ≤ length (now out) ⌝ }
     ensures { λ r. ⌜ Listed l (now (s .entry)) r ⌝ }
 {
     let mut x = l;
@@ -54,7 +55,7 @@ fn list(l: Lister, s: &[u8], out: &mut [u8]) -> Sent
 
 // The input has ended. (The buffer has room for what is then written.)
 fn finish(l: Lister, out: &mut [u8])
-    requires { ⌜ 487 ≤ length (now out) ⌝ }
+    requires { ⌜ endingMost ≤ length (now out) ⌝ }
 {
     let n = listing::finish(l, out);
     send(&out[..n]);
@@ -63,7 +64,7 @@ fn finish(l: Lister, out: &mut [u8])
 // Lists the input from a first read on, which gave `first`. A proved loop has to end, and nothing says
 // that an input does: so it counts its turns down from a number that no run uses up.
 fn list_all(fd: i32, first: isize, buf: &mut [u8], out: &mut [u8])
-    requires { ⌜ 487 ≤ length (now out) ⌝ }
+    requires { ⌜ endingMost ≤ length (now out) ⌝ }
 {
     let mut l = listing::begin();
     let mut got = first;
@@ -91,7 +92,7 @@ fn list_all(fd: i32, first: isize, buf: &mut [u8], out: &mut [u8])
 
 // Lists an input that is open. Where not even a first read is possible there is no listing.
 fn list_open(fd: i32, buf: &mut [u8], out: &mut [u8])
-    requires { ⌜ 487 ≤ length (now out) ⌝ }
+    requires { ⌜ endingMost ≤ length (now out) ⌝ }
 {
     let first = libc::read(fd, buf);
     if first < 0 {

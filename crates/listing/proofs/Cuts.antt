@@ -86,12 +86,14 @@ unfolding takes feed
 takes-fed room [] f at = let z : at - at ≡ 0 = omega arith in rw z
 takes-fed room (b ∷ bs) f at = fed-by room f b bs at (leb (length (f .said)) room) refl (takes-fed room bs (feedByte f b) (at + 1))
 
-part-by : (l : Lister) (s : List ℕ) (n : ℕ) (t : Bool) → ltb n answerMost ≡ t → partOf l s n .feed ≡ feed (record { lister = l; said = [] }) (take (partOf l s n .at) s)
+part-by : (l : Lister) (s : List ℕ) (n : ℕ) (t : Bool) → ltb n answerMost ≡ t
+    → partOf l s n .feed ≡ feed (record { lister = l; said = [] }) (take (partOf l s n .at) s)
 unfolding partOf feed
 part-by l s n true e = rw e
 part-by l s n false e =
-    let z : takes (n - answerMost) (record { lister = l; said = [] }) s 0 .at - 0 ≡ takes (n - answerMost) (record { lister = l; said = [] }) s 0 .at = omega arith in
-    rw e (rw z at (takes-fed (n - answerMost) s (record { lister = l; said = [] }) 0))
+    let f : Feed = record { lister = l; said = [] } in
+    let z : takes (n - answerMost) f s 0 .at - 0 ≡ takes (n - answerMost) f s 0 .at = omega arith in
+    rw e (rw z at (takes-fed (n - answerMost) s f 0))
 
 pub part-fed : (l : Lister) (s : List ℕ) (n : ℕ) → partOf l s n .feed ≡ feed (record { lister = l; said = [] }) (take (partOf l s n .at) s)
 part-fed l s n = part-by l s n (ltb n answerMost) refl

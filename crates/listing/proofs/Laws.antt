@@ -256,7 +256,8 @@ pub record Going (l : Lister) (s out₀ : List ℕ) (room : ℕ) (x : Lister) (a
 pub going-start : (l : Lister) (s out : List ℕ) (room : ℕ) → Going l s out room l 0 0 out
 going-start l s out room = record { w = []; same = refl; wrote = wider 0 [] 0 (length out) out 0 out (omega arith) (puts-nil 0 out) }
 
-pub going-on : (l : Lister) (s out₀ : List ℕ) (room : ℕ) (x : Lister) (at n : ℕ) (out : List ℕ) (r : Part) (after : List ℕ) → room + answerMost ≤ length out₀ → n ≤ room
+pub going-on : (l : Lister) (s out₀ : List ℕ) (room : ℕ) (x : Lister) (at n : ℕ) (out : List ℕ) (r : Part) (after : List ℕ)
+    → room + answerMost ≤ length out₀ → n ≤ room
     → Going l s out₀ room x at n out → Turned x s at n out r after → Going l s out₀ room (r .lister) (r .at) (r .put) after
 going-on l s out₀ room x at n out r after h k g t =
     let u = g .wrote in
@@ -265,8 +266,10 @@ going-on l s out₀ room x at n out r after h k g t =
     record {
       w = g .w ++ t .said;
       same = g .same ∙ t .same room (g .w) (omega arith);
-      wrote = wider 0 (g .w ++ t .said) (length (g .w) + answerMost) (length out₀) out₀ (r .put) after (rw (length-append (g .w) (t .said)) (omega (arith, v .small)))
-          (puts-join 0 (g .w) (t .said) (length (g .w)) answerMost out₀ n out (r .put) after (omega arith) (wider 0 (g .w) (length out₀) (length (g .w)) out₀ n out (omega arith) u) v);
+      wrote = wider 0 (g .w ++ t .said) (length (g .w) + answerMost) (length out₀) out₀ (r .put) after
+          (rw (length-append (g .w) (t .said)) (omega (arith, v .small)))
+          (puts-join 0 (g .w) (t .said) (length (g .w)) answerMost out₀ n out (r .put) after (omega arith)
+          (wider 0 (g .w) (length out₀) (length (g .w)) out₀ n out (omega arith) u) v);
     }
 
 done-by : (room : ℕ) (f : Feed) (s : List ℕ) (at : ℕ) (p : Bool) → ltb at (length s) ≡ p → (p && leb (length (f .said)) room) ≡ false
@@ -300,17 +303,21 @@ pub tests : (at len n room : ℕ) → (ltb at len && leb n room) ≡ true → (a
 tests at len n room t = let p = and-split (ltb at len) (leb n room) t in (ltb-true at len (p .0), leb-true n room (p .1))
 
 -- ---- an answer written
-pub answer-reports : (at : ℕ) (a : Answer) (out : List ℕ) (r : ℕ) (after : List ℕ) → a .no ≡ taken → at + answerMost ≤ length out → Writes (reportsText (listed (a .reports))) answerMost at out r after
+pub answer-reports : (at : ℕ) (a : Answer) (out : List ℕ) (r : ℕ) (after : List ℕ) → a .no ≡ taken → at + answerMost ≤ length out
+    → Writes (reportsText (listed (a .reports))) answerMost at out r after
     → Puts at (answerText a) answerMost out r after
 unfolding answerText
-answer-reports at a out r after e h w = rw (eq-eqb (a .no) taken e) (writes-puts (reportsText (listed (a .reports))) answerMost at out r after h (reports-small (a .reports)) w)
+answer-reports at a out r after e h w =
+    rw (eq-eqb (a .no) taken e) (writes-puts (reportsText (listed (a .reports))) answerMost at out r after h (reports-small (a .reports)) w)
 
-pub answer-refusal : (at : ℕ) (a : Answer) (out : List ℕ) (r : ℕ) (after : List ℕ) → (a .no ≡ taken → ⊥) → at + answerMost ≤ length out → Writes (refusedText (a .no)) refusedMost at out r after
+pub answer-refusal : (at : ℕ) (a : Answer) (out : List ℕ) (r : ℕ) (after : List ℕ) → (a .no ≡ taken → ⊥) → at + answerMost ≤ length out
+    → Writes (refusedText (a .no)) refusedMost at out r after
     → Puts at (answerText a) answerMost out r after
 unfolding answerText
 answer-refusal at a out r after e h w =
     let k = refused-small (a .no) in
-    rw (ne-eqb (a .no) taken e) (wider at (refusedText (a .no)) refusedMost answerMost out r after (omega arith) (writes-puts (refusedText (a .no)) refusedMost at out r after (omega arith) k w))
+    rw (ne-eqb (a .no) taken e)
+    (wider at (refusedText (a .no)) refusedMost answerMost out r after (omega arith) (writes-puts (refusedText (a .no)) refusedMost at out r after (omega arith) k w))
 
 pub acted : (l : Lister) (e : Event) (at n : ℕ) (out : List ℕ) (t : Stepped) (rd : Reading) (m : ℕ) (after : List ℕ) → t ≡ stepOf (l .link) (l .counts) e → rd ≡ freshReading
     → Puts n (answerText (t .answer)) answerMost out m after
@@ -332,7 +339,8 @@ part-fed-once : (l : Lister) (n : ℕ) → answerMost ≤ n → partOf l (10 ∷
 unfolding partOf
 part-fed-once l n h = rw (le-ltb n answerMost h) (feed-taken l (n - answerMost))
 
-pub ended-line : (l : Lister) (out : List ℕ) (r : Part) (after : List ℕ) → answerMost ≤ length out → isEmpty (l .reading) ≡ false → Parted l (10 ∷ []) out r after → Ended l out r after
+pub ended-line : (l : Lister) (out : List ℕ) (r : Part) (after : List ℕ) → answerMost ≤ length out → isEmpty (l .reading) ≡ false
+    → Parted l (10 ∷ []) out r after → Ended l out r after
 unfolding finished
 ended-line l out r after h f p =
     let e = part-fed-once l (length out) h in
@@ -345,7 +353,8 @@ ended-line l out r after h f p =
 pub end-none : (p out : List ℕ) → length out < endingMost → Writes p endingMost 0 out 0 out
 end-none p out h = record { place = rw (lt-leb endingMost (length out) h) refl; memory = rw (lt-leb endingMost (length out) h) refl }
 
-pub end-written : (l : Lister) (out : List ℕ) (p : Part) (o1 : List ℕ) (held r : ℕ) (after : List ℕ) → endingMost ≤ length out → Ended l out p o1 → held ≡ heldOf (p .lister .link)
+pub end-written : (l : Lister) (out : List ℕ) (p : Part) (o1 : List ℕ) (held r : ℕ) (after : List ℕ) → endingMost ≤ length out → Ended l out p o1
+    → held ≡ heldOf (p .lister .link)
     → Writes (endText (p .lister .counts) held) endMost (p .put) o1 r after → Writes (endingOf l) endingMost 0 out r after
 unfolding endingOf
 end-written l out p o1 held r after h d eh w =
@@ -353,5 +362,6 @@ end-written l out p o1 held r after h d eh w =
     let f = finished (record { lister = l; said = [] }) in
     let pl : p .put ≡ length (f .said) = u .place ∙ zero-add _ in
     let w2 : Writes (endText (f .lister .counts) (heldOf (f .lister .link))) endMost (p .put) o1 r after = rw (eh, d .lister) at w in
-    let v = writes-puts (endText (f .lister .counts) (heldOf (f .lister .link))) endMost (p .put) o1 r after (omega (arith, u .small, u .kept)) (end-small (f .lister .counts) (heldOf (f .lister .link))) w2 in
+    let v = writes-puts (endText (f .lister .counts) (heldOf (f .lister .link))) endMost (p .put) o1 r after (omega (arith, u .small, u .kept))
+    (end-small (f .lister .counts) (heldOf (f .lister .link))) w2 in
     puts-writes _ endingMost 0 out r after (omega arith) (puts-join 0 (f .said) _ answerMost endMost out (p .put) o1 r after (omega arith) u v)

@@ -24,4 +24,5 @@ list-part l s out = only-both _ (put 0 (partOf l s (length out) .feed .said) out
 
 pub finish : (l : Lister) (out : List ℕ) → Only (λ (x : ℕ × List ℕ). Writes (endingOf l) endingMost 0 out (x .0) (x .1))
 finish l out =
-    only-both (if fits 0 endingMost out then 0 + length (endingOf l) else 0) (if fits 0 endingMost out then put 0 (endingOf l) out else out) (λ x w. (w .place, w .memory))
+    only-both (if fits 0 endingMost out then 0 + length (endingOf l) else 0) (if fits 0 endingMost out then put 0 (endingOf l) out else out)
+    (λ x w. (w .place, w .memory))

@@ -62,7 +62,8 @@ part-inside l s out r after p = rw (part-kept l s out r after p, p .written) (pa
 pub finished-small : (l : Lister) → length (finished (record { lister = l; said = [] }) .said) ≤ answerMost
 unfolding finished
 finished-small l =
-    by-test (λ (f : Feed). length (f .said) ≤ answerMost) (isEmpty (l .reading)) (λ e. omega arith) (λ e. omega (arith, line-ended-small (record { lister = l; said = [] })))
+    by-test (λ (f : Feed). length (f .said) ≤ answerMost) (isEmpty (l .reading)) (λ e. omega arith)
+    (λ e. omega (arith, line-ended-small (record { lister = l; said = [] })))
 
 pub ending-small : (l : Lister) → length (endingOf l) ≤ endingMost
 unfolding endingOf

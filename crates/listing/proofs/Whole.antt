@@ -87,7 +87,7 @@ parts-fed (p ∷ ps) l =
     let f = drained (p .room) l (p .bytes) in
     ap (behind (f .said)) (parts-fed ps (f .lister)) ∙ part-then l (p .bytes) (joined ps) f (drained-fed (p .room) l (p .bytes) (p .enough))
 
--- THE THEOREM. An input may come in any parts at all, each listed with a buffer of any size from 315 bytes on: the header, what was written for the
+-- THE THEOREM. An input may come in any parts at all, each listed with a buffer of any size from `answerMost` on: the header, what was written for the
 -- parts, in order, and what the end writes, are the listing of the input.
 pub whole-input : (ps : List Piece)
     → headText ++ (listedParts freshLister ps .said ++ endingOf (listedParts freshLister ps .lister)) ≡ listingOf (joined ps)

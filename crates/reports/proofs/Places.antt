@@ -1,38 +1,24 @@
 -- The places for reports: what is in them, by their number, and that a report which finds one is the last of the list. Assumes nothing.
 use Prim.Native.Nat.{ℕ, zero, suc, _+_, _≤_, _<_}
-use mathlib.Core.Path.{_≡_, refl}
+use mathlib.Core.Path.{_≡_, refl, ap}
 use mathlib.Core.List.{[], _∷_, _++_}
 use lib.Dec.{eqb}
-use lib.ListN.{length, length-take}
+use lib.ListN.{length, take, length-take}
+use lib.Seq.{take-all}
 use native.Mathlib.Omega.{arith}
 use Rattle.base.proofs.Tests.{by-test}
-use Rattle.reports.specs.Reporting.{places, appended, listed}
+use Rattle.reports.specs.Reporting.{places, inPlaces, appended, listed}
 use Rattle.reports.specs.declared.Report.{Report}
 use Rattle.reports.specs.declared.Reports.{Reports}
 
 -- ---- the reports by their number, as the code asks for it
-pub listed-none : (rs : Reports) → rs .n ≡ 0 → listed rs ≡ []
+pub listed-first : (rs : Reports) (k : ℕ) → rs .n ≡ k → listed rs ≡ take k (inPlaces rs)
 unfolding listed
-listed-none rs e = rw e refl
+listed-first rs k e = ap (λ (m : ℕ). take m (inPlaces rs)) e
 
-pub listed-one : (rs : Reports) → rs .n ≡ 1 → listed rs ≡ (rs .a ∷ [])
+pub listed-all : (rs : Reports) → places ≤ rs .n → listed rs ≡ inPlaces rs
 unfolding listed
-listed-one rs e = rw e refl
-
-pub listed-two : (rs : Reports) → rs .n ≡ 2 → listed rs ≡ (rs .a ∷ rs .b ∷ [])
-unfolding listed
-listed-two rs e = rw e refl
-
-all-by : (a b c : Report) (n : ℕ) → places ≤ n → listed (record { a = a; b = b; c = c; n = n }) ≡ (a ∷ b ∷ c ∷ [])
-unfolding listed
-all-by a b c zero h = absurd (omega arith)
-all-by a b c (suc zero) h = absurd (omega arith)
-all-by a b c (suc (suc zero)) h = absurd (omega arith)
-all-by a b c (suc (suc (suc zero))) h = refl
-all-by a b c (suc (suc (suc (suc n)))) h = refl
-
-pub listed-all : (rs : Reports) → (rs .n ≡ 0 → ⊥) → (rs .n ≡ 1 → ⊥) → (rs .n ≡ 2 → ⊥) → listed rs ≡ (rs .a ∷ rs .b ∷ rs .c ∷ [])
-listed-all rs h0 h1 h2 = all-by (rs .a) (rs .b) (rs .c) (rs .n) (omega arith)
+listed-all rs h = take-all (rs .n) (inPlaces rs) h
 
 -- never more than there are places
 pub listed-few : (rs : Reports) → length (listed rs) ≤ places

@@ -39,16 +39,20 @@ reportOf r number reason = record {
   reason = reason;
 }
 
--- behind the others, in the next place
+-- after the others, in the next place; where all places are taken, nothing
 unfoldable pub appended : Reports → Report → Reports
 appended rs r =
     if eqb (rs .n) 0 then record { a = r; b = rs .b; c = rs .c; n = 1 } else
     if eqb (rs .n) 1 then record { a = rs .a; b = r; c = rs .c; n = 2 } else
     if eqb (rs .n) 2 then record { a = rs .a; b = rs .b; c = r; n = 3 } else rs
 
--- the reports in order: those in the first n places
+-- the places in order, ..
+abbrev pub inPlaces : Reports → List Report
+inPlaces rs = rs .a ∷ rs .b ∷ rs .c ∷ []
+
+-- .. and the reports, which are those in the first n
 unfoldable pub listed : Reports → List Report
-listed rs = take (rs .n) (rs .a ∷ rs .b ∷ rs .c ∷ [])
+listed rs = take (rs .n) (inPlaces rs)
 
 -- a move is made: its phase, and its report if it has one
 unfoldable pub told : Run → Move → Run

@@ -24,7 +24,7 @@ pub struct Report {
 // The places for the reports of an event.
 pub const PLACES: usize = 3;
 
-// The reports of an event: the first n of the places.
+// The reports of an event: those in the first n places.
 pub struct Reports {
     pub a: Report,
     pub b: Report,

@@ -13,9 +13,9 @@ use Rattle.reports.proofs.Places.{listed-few}
 use Rattle.reports.specs.declared.Report.{Report}
 use Rattle.reports.specs.declared.Reports.{Reports}
 use Rattle.reports.specs.declared.Counts.{Counts}
-use Rattle.text.specs.Text.{space, lineFeed, placesOf, numberText, lineText, headText, reportText, reportsText, refusedText, endText, put, Writes, Puts}
+use Rattle.text.specs.Text.{space, lineFeed, digitCount, numberText, lineText, headText, reportText, reportsText, refusedText, endText, put, Writes, Puts}
 use Rattle.text.specs.Text.{numberMost, headMost, lineMost, reportsMost, refusedMost, endMost}
-use Rattle.text.proofs.Spelling.{length-digits, places-few}
+use Rattle.text.proofs.Spelling.{length-digits, count-few}
 
 -- a text behind another
 drop-past : (x r : List ℕ) (n m : ℕ) → length x ≡ n → drop (n + m) (x ++ r) ≡ drop m r
@@ -76,7 +76,7 @@ writes-puts p most at out r after h k w =
 -- how long the texts are
 pub number-small : (n b : ℕ) → length (numberText n b) ≤ numberMost
 unfolding numberText
-number-small n b = rw (length-append, length-digits (placesOf 19 n) n) (omega (arith, places-few 19 n))
+number-small n b = rw (length-append, length-digits (digitCount 19 n) n) (omega (arith, count-few 19 n))
 
 pub line-small : (ns : List ℕ) → length (lineText ns) ≤ length ns * numberMost
 unfolding lineText

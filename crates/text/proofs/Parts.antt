@@ -14,8 +14,8 @@ use Rattle.reports.specs.Reporting.{places, listed}
 use Rattle.reports.specs.declared.Report.{Report}
 use Rattle.reports.specs.declared.Reports.{Reports}
 use Rattle.reports.specs.declared.Counts.{Counts}
-use Rattle.reports.proofs.Places.{listed-none}
-use Rattle.text.specs.Text.{space, placesOf, digitsOf, numberText, spacedText, lineText, reportText, reportsText, endText, put, fits, Writes, Puts}
+use Rattle.reports.proofs.Places.{listed-first}
+use Rattle.text.specs.Text.{space, digitCount, digitsOf, numberText, spacedText, lineText, reportText, reportsText, endText, put, fits, Writes, Puts}
 use Rattle.text.specs.Text.{numberMost, lineMost, reportsMost, endMost}
 use Rattle.text.proofs.Spelling.{length-digits}
 use Rattle.text.proofs.Laws.{put-put, length-put, put-nil, puts-nil, puts-join, reports-small}
@@ -25,7 +25,7 @@ pub put-one : (out : List ℕ) (i b : ℕ) → i < length out → set out i b �
 unfolding put
 put-one out i b h = let e : suc i ≡ i + 1 = omega arith in rw (set-split out i b h, e)
 
-pub number-puts : (at k n b : ℕ) (out o1 : List ℕ) → at + numberMost ≤ length out → k ≡ placesOf 19 n → k ≤ 20 → o1 ≡ put at (digitsOf k n) out
+pub number-puts : (at k n b : ℕ) (out o1 : List ℕ) → at + numberMost ≤ length out → k ≡ digitCount 19 n → k ≤ 20 → o1 ≡ put at (digitsOf k n) out
     → Puts at (numberText n b) numberMost out (at + k + 1) (set o1 (at + k) b)
 unfolding numberText
 number-puts at k n b out o1 h ek small e =
@@ -130,7 +130,7 @@ none-writes most at out =
 -- ---- the reports of an event
 pub writes-none : (rs : Reports) (most at : ℕ) (out : List ℕ) → rs .n ≡ 0 → Writes (reportsText (listed rs)) most at out at out
 unfolding reportsText
-writes-none rs most at out e = rw (listed-none rs e) (none-writes most at out)
+writes-none rs most at out e = rw (listed-first rs 0 e) (none-writes most at out)
 
 -- the lines so far: of reports xs, one behind the other
 abbrev pub Lines : ℕ → List Report → List ℕ → ℕ → List ℕ → Type 0
@@ -152,6 +152,10 @@ puts-line at xs x out a o1 r o2 h k u v =
     let j = puts-join at (reportsText xs) (reportText x) (length xs * lineMost) lineMost out a o1 r o2 (omega arith) u v in
     let e : length (xs ++ (x ∷ [])) * lineMost ≡ length xs * lineMost + lineMost = rw (length-append xs (x ∷ [])) (omega arith) in
     rw (e, ← (lines-append xs x)) j
+
+-- a number that is none of those asked for
+pub past : (n k : ℕ) → k ≤ n → (n ≡ k → ⊥) → k + 1 ≤ n
+past n k h e = omega arith
 
 -- all of them are there
 pub puts-listed : (at : ℕ) (rs : Reports) (xs : List Report) (out : List ℕ) (r : ℕ) (after : List ℕ) → listed rs ≡ xs → Lines at xs out r after

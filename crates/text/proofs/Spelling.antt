@@ -11,18 +11,18 @@ use native.Mathlib.Omega.{arith}
 use native.Mathlib.Numerals.{add-one}
 use native.Mathlib.Nat.{zero-add, pow-succ'}
 use Rattle.base.specs.Choice.{if_then_else_}
-use Rattle.text.specs.Text.{placesOf, digitsOf, put}
+use Rattle.text.specs.Text.{digitCount, digitsOf, put}
 
 -- how many digits a number has: one more than its tenth part, and 1 below 10
-pub places-on : (f v : ℕ) → 10 ≤ v → 0 < f → placesOf f v ≡ placesOf (f - 1) (v / 10) + 1
-unfolding placesOf
-places-on zero v h k = absurd (omega arith)
-places-on (suc f) v h k = let p : suc f - 1 ≡ f = omega arith in rw (le-ltb _ _ h, p, add-one)
+pub count-on : (f v : ℕ) → 10 ≤ v → 0 < f → digitCount f v ≡ digitCount (f - 1) (v / 10) + 1
+unfolding digitCount
+count-on zero v h k = absurd (omega arith)
+count-on (suc f) v h k = let p : suc f - 1 ≡ f = omega arith in rw (le-ltb _ _ h, p, add-one)
 
-pub places-end : (f v : ℕ) → v < 10 → placesOf f v ≡ 1
-unfolding placesOf
-places-end zero v h = refl
-places-end (suc f) v h = rw (lt-ltb _ _ h)
+pub count-end : (f v : ℕ) → v < 10 → digitCount f v ≡ 1
+unfolding digitCount
+count-end zero v h = refl
+count-end (suc f) v h = rw (lt-ltb _ _ h)
 
 pub less : (f v : ℕ) → 0 < f → v < 10 ^ (f + 1) → v / 10 < 10 ^ (f - 1 + 1)
 less f v k h =
@@ -98,7 +98,7 @@ pub record Counted (n k v : ℕ) : Type 0 where
   pub some : 1 ≤ k
   pub few : k ≤ 20
   pub below : v < 10 ^ (20 - k + 1)
-  pub sum : placesOf 19 n ≡ k - 1 + placesOf (20 - k) v
+  pub sum : digitCount 19 n ≡ k - 1 + digitCount (20 - k) v
 
 pub counted-start : (n : ℕ) → n < 10 ^ 20 → Counted n 1 n
 counted-start n h = record { some = omega arith; few = omega arith; below = h; sum = sym (zero-add _) }
@@ -108,7 +108,7 @@ counted-on n k v h p =
     let pos = no-more (20 - k) v h (p .below) in
     let e : 20 - k - 1 ≡ 20 - (k + 1) = omega arith in
     let l = less (20 - k) v pos (p .below) in
-    let t = places-on (20 - k) v h pos in
+    let t = count-on (20 - k) v h pos in
     record {
       some = omega arith;
       few = omega arith;
@@ -116,15 +116,15 @@ counted-on n k v h p =
       sum = p .sum ∙ (rw (t, e) (omega (arith, p .some)));
     }
 
-pub counted-end : (n k v : ℕ) → v < 10 → Counted n k v → k ≡ placesOf 19 n
-counted-end n k v h p = omega (arith, p .sum, p .some, places-end (20 - k) v h)
+pub counted-end : (n k v : ℕ) → v < 10 → Counted n k v → k ≡ digitCount 19 n
+counted-end n k v h p = omega (arith, p .sum, p .some, count-end (20 - k) v h)
 
 -- a number has at most 20 digits
 few-by : (b : Bool) (m k : ℕ) → m ≤ k → (if b then 1 else suc m) ≤ suc k
 few-by true m k h = omega arith
 few-by false m k h = omega arith
 
-pub places-few : (f n : ℕ) → placesOf f n ≤ f + 1
-unfolding placesOf
-places-few zero n = omega arith
-places-few (suc f) n = let h = few-by (ltb n 10) (placesOf f (n / 10)) (f + 1) (places-few f (n / 10)) in omega (arith, h)
+pub count-few : (f n : ℕ) → digitCount f n ≤ f + 1
+unfolding digitCount
+count-few zero n = omega arith
+count-few (suc f) n = let h = few-by (ltb n 10) (digitCount f (n / 10)) (f + 1) (count-few f (n / 10)) in omega (arith, h)

@@ -17,9 +17,9 @@ abbrev pub lineFeed : ℕ
 lineFeed = 10
 
 -- how many decimal digits n has, if it has f + 1 or fewer
-unfoldable pub placesOf : ℕ → ℕ → ℕ
-placesOf zero n = 1
-placesOf (suc f) n = if ltb n 10 then 1 else suc (placesOf f (n / 10))
+unfoldable pub digitCount : ℕ → ℕ → ℕ
+digitCount zero n = 1
+digitCount (suc f) n = if ltb n 10 then 1 else suc (digitCount f (n / 10))
 
 -- the last k decimal digits of n
 unfoldable pub digitsOf : ℕ → ℕ → List ℕ
@@ -28,7 +28,7 @@ digitsOf (suc k) n = digitsOf k (n / 10) ++ ((48 + n % 10) ∷ [])
 
 -- a number of up to 20 digits with no zeros in front, and a byte behind it
 unfoldable pub numberText : ℕ → ℕ → List ℕ
-numberText n behind = digitsOf (placesOf 19 n) n ++ (behind ∷ [])
+numberText n behind = digitsOf (digitCount 19 n) n ++ (behind ∷ [])
 
 -- numbers with a space behind each
 unfoldable pub spacedText : List ℕ → List ℕ

@@ -108,7 +108,8 @@ pub fn put_refusal(out: &mut [u8], at: usize, no: u8) -> usize
 // The counts of bytes, a space behind each.
 fn put_byte_counts(out: &mut [u8], at: usize, c: Counts) -> usize
     requires { ⌜ at + 5 * numberMost ≤ length (now out) ⌝ }
-    ensures { λ r. ⌜ Puts at (spacedText (c .heard ∷ c .framed ∷ c .damaged ∷ c .started ∷ c .outside ∷ [])) (5 * numberMost) (now (out .entry)) r (now (out .exit)) ⌝ }
+    ensures { λ r. ⌜ Puts at (spacedText (c .heard ∷ c .framed ∷ c .damaged ∷ c .started ∷ c .outside ∷ [])) (5 * numberMost)
+        (now (out .entry)) r (now (out .exit)) ⌝ }
 {
     let a = writing::put_number(out, at, c.heard, SPACE);
     let b = writing::put_number(out, a, c.framed, SPACE);

@@ -4,7 +4,7 @@ ghost use mathlib.Core.Path.{_≡_};
 ghost use Prim.Native.Nat.{_+_, _≤_};
 ghost use lib.Dec.{leb};
 ghost use lib.ListN.{length};
-ghost use Rattle.text.specs.Text.{placesOf, digitsOf, numberText, numberMost, put, Puts};
+ghost use Rattle.text.specs.Text.{digitCount, digitsOf, numberText, numberMost, put, Puts};
 
 // Does a buffer of so many bytes have `most` bytes or more from `at` on?
 pub(crate) fn has_room(len: usize, at: usize, most: usize) -> bool
@@ -17,8 +17,8 @@ pub(crate) fn has_room(len: usize, at: usize, most: usize) -> bool
 }
 
 // How many decimal digits n has.
-fn places(n: u64) -> usize
-    ensures { λ r. ⌜ (r ≡ placesOf 19 n) × (r ≤ 20) ⌝ }
+fn count_digits(n: u64) -> usize
+    ensures { λ r. ⌜ (r ≡ digitCount 19 n) × (r ≤ 20) ⌝ }
 {
     let mut k = 1;
     let mut v = n;
@@ -48,7 +48,7 @@ pub(crate) fn put_number(out: &mut [u8], at: usize, n: u64, behind: u8) -> usize
     requires { ⌜ at + numberMost ≤ length (now out) ⌝ }
     ensures { λ r. ⌜ Puts at (numberText n behind) numberMost (now (out .entry)) r (now (out .exit)) ⌝ }
 {
-    let k = places(n);
+    let k = count_digits(n);
     spell(out, at, n, k);
     let end = at + k;
     out[end] = behind;

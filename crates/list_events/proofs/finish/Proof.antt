@@ -11,10 +11,10 @@ finish-requires : tie.Need-finish-requires
 finish-requires c κs = search needs
 
 slice-reshare-prefix-send : tie.Need-slice-reshare-prefix-send
-slice-reshare-prefix-send c = omega (arith, written-inside _ 487 _ _ _ (ending-small _) (c .before .before .finish .ensures))
+slice-reshare-prefix-send c = omega (arith, written-inside _ _ _ _ _ (ending-small _) (c .before .before .finish .ensures))
 
 slice-aggregate-send : tie.Need-slice-aggregate-send
-slice-aggregate-send c = sym (length-take-le _ _ (written-inside _ 487 _ _ _ (ending-small _) (c .before .before .before .finish .ensures)))
+slice-aggregate-send c = sym (length-take-le _ _ (written-inside _ _ _ _ _ (ending-small _) (c .before .before .before .finish .ensures)))
 
 send-requires : tie.Need-send-requires
 send-requires c κs = search needs

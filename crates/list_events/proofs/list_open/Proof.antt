@@ -27,10 +27,10 @@ put-head-requires : tie.Need-put-head-requires
 put-head-requires c κs = search needs
 
 slice-reshare-prefix-send : tie.Need-slice-reshare-prefix-send
-slice-reshare-prefix-send c = omega (arith, written-inside _ 31 _ _ _ head-small (c .before .before .put-head .ensures))
+slice-reshare-prefix-send c = omega (arith, written-inside _ _ _ _ _ head-small (c .before .before .put-head .ensures))
 
 slice-aggregate-send : tie.Need-slice-aggregate-send
-slice-aggregate-send c = sym (length-take-le _ _ (written-inside _ 31 _ _ _ head-small (c .before .before .before .put-head .ensures)))
+slice-aggregate-send c = sym (length-take-le _ _ (written-inside _ _ _ _ _ head-small (c .before .before .before .put-head .ensures)))
 
 send-requires : tie.Need-send-requires
 send-requires c κs = search needs

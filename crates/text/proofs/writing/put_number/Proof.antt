@@ -4,8 +4,8 @@ use Rattle.text.proofs.Parts.{number-puts}
 use Rattle.text.proofs.writing.put_number.Statement.{statement}
 use Rattle.text.proofs.writing.put_number.Tie as tie
 
-places-requires : tie.Need-places-requires
-places-requires c κs = search needs
+count-digits-requires : tie.Need-count-digits-requires
+count-digits-requires c κs = search needs
 
 spell-requires : tie.Need-spell-requires
 spell-requires c κs = search needs
@@ -26,13 +26,13 @@ returns : tie.Need-returns
 returns c =
     let b = c .before .before in
     let a = b .before .before in
-    number-puts _ _ _ _ _ _ (a .before .before .pre) (a .places .ensures .0) (a .places .ensures .1) (b .spell .ensures)
+    number-puts _ _ _ _ _ _ (a .before .before .pre) (a .count-digits .ensures .0) (a .count-digits .ensures .1) (b .spell .ensures)
 
 pub put-number-spec : {M : Type 1} → statement M
 put-number-spec =
     tie.close
     (tie.spec
-    places-requires
+    count-digits-requires
     spell-requires
     add-end
     slice-write-out

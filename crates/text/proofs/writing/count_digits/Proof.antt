@@ -1,10 +1,10 @@
--- `text::writing::places` meets its contract: each turn takes one digit off, and the digits counted and left are those of the number.
+-- `text::writing::count_digits` meets its contract: each turn takes one digit off, and the digits counted and left are those of the number.
 -- Assumes nothing.
 use native.Mathlib.Omega.{arith}
 use borrow.Author.Needs.{needs}
 use Rattle.text.proofs.Spelling.{Counted, counted-start, counted-on, counted-end}
-use Rattle.text.proofs.writing.places.Statement.{statement}
-use Rattle.text.proofs.writing.places.Tie as tie
+use Rattle.text.proofs.writing.count_digits.Statement.{statement}
+use Rattle.text.proofs.writing.count_digits.Tie as tie
 
 abbrev Inv-loop : tie.InvT-loop
 Inv-loop n k₀ v₀ k v = Counted n k v
@@ -27,5 +27,5 @@ loop-again c = counted-on _ _ _ (c .loop-test .taken) (c .before .loop .inv)
 returns : tie.Need-returns Inv-loop μ-loop
 returns c = (counted-end _ _ _ (c .loop-test .left) (c .before .loop .inv), c .before .loop .inv .few)
 
-pub places-spec : {M : Type 1} → statement M
-places-spec = tie.close (tie.spec Inv-loop μ-loop loop-holds add-k loop-less loop-again returns)
+pub count-digits-spec : {M : Type 1} → statement M
+count-digits-spec = tie.close (tie.spec Inv-loop μ-loop loop-holds add-k loop-less loop-again returns)
