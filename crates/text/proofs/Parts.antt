@@ -153,6 +153,11 @@ puts-line at xs x out a o1 r o2 h k u v =
     let e : length (xs ++ (x ∷ [])) * lineMost ≡ length xs * lineMost + lineMost = rw (length-append xs (x ∷ [])) (omega arith) in
     rw (e, ← (lines-append xs x)) j
 
+-- there is room for one more
+pub line-room : (at : ℕ) (xs : List Report) (out : List ℕ) (a : ℕ) (o1 : List ℕ) → at + reportsMost ≤ length out → length xs < places → Lines at xs out a o1
+    → a + lineMost ≤ length o1
+line-room at xs out a o1 h k u = omega (arith, u .place, u .small, u .kept)
+
 -- a number that is none of those asked for
 pub past : (n k : ℕ) → k ≤ n → (n ≡ k → ⊥) → k + 1 ≤ n
 past n k h e = omega arith

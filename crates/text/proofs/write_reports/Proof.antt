@@ -3,51 +3,55 @@ use mathlib.Core.List.{[], _∷_}
 use native.Mathlib.Omega.{arith}
 use borrow.Author.Needs.{needs}
 use Rattle.reports.proofs.Places.{listed-first, listed-all}
-use Rattle.text.proofs.Parts.{no-lines, past, puts-line, puts-listed}
+use Rattle.text.proofs.Parts.{Lines, no-lines, puts-line, line-room, past, puts-listed}
 use Rattle.text.proofs.write_reports.Statement.{statement}
 use Rattle.text.proofs.write_reports.Tie as tie
+
+-- the lines that stand there after each call
+one : (c : tie.After-put-report)
+    → let s = c .before .before .before in
+    Lines (s .args .at) (s .args .rs .a ∷ []) (s .args .out .now) (c .put-report .result) (c .put-report .last .0)
+one c = puts-line _ [] _ _ _ _ _ _ (c .before .before .before .pre .0) (omega arith) (no-lines _ _) (c .put-report .ensures)
+
+two : (c : tie.After-put-report2)
+    → let s = c .before .before .before .before .before .before .before .before .before in
+    Lines (s .args .at) (s .args .rs .a ∷ s .args .rs .b ∷ []) (s .args .out .now) (c .put-report2 .result) (c .put-report2 .last .0)
+two c = puts-line _ (_ ∷ []) _ _ _ _ _ _ (c .before .before .before .before .before .before .before .before .before .pre .0) (omega arith) (one (c .before .before .before .before .before .before)) (c .put-report2 .ensures)
+
+three : (c : tie.After-put-report3)
+    → let s = c .before .before .before .before .before .before .before .before .before .before .before .before .before .before .before in
+    Lines (s .args .at) (s .args .rs .a ∷ s .args .rs .b ∷ s .args .rs .c ∷ []) (s .args .out .now) (c .put-report3 .result) (c .put-report3 .last .0)
+three c = puts-line _ (_ ∷ _ ∷ []) _ _ _ _ _ _ (c .before .before .before .before .before .before .before .before .before .before .before .before .before .before .before .pre .0) (omega arith) (two (c .before .before .before .before .before .before)) (c .put-report3 .ensures)
 
 put-report-requires : tie.Need-put-report-requires
 put-report-requires c κs = search needs
 
 same-length : tie.Need-same-length
-same-length c = search needs
+same-length c = one (c .before .before .before .before) .kept
 
 returns : tie.Need-returns
-returns c =
-    let a = c .before .before .before .before in
-    puts-listed _ _ _ _ _ _ (listed-first _ 1 (c .if1 .taken)) (puts-line _ [] _ _ _ _ _ _ (search needs) (omega arith) (no-lines _ _) (a .put-report .ensures))
+returns c = puts-listed _ _ _ _ _ _ (listed-first _ 1 (c .if1 .taken)) (one (c .before .before .before .before))
 
 put-report-requires-2 : tie.Need-put-report-requires-2
-put-report-requires-2 c κs = search needs
+put-report-requires-2 c κs = line-room _ _ _ _ _ (c .before .before .before .before .before .before .before .before .pre .0) (omega arith) (one (c .before .before .before .before .before))
 
 same-length-2 : tie.Need-same-length-2
-same-length-2 c = search needs
+same-length-2 c = two (c .before .before .before .before) .kept
 
 returns-2 : tie.Need-returns-2
-returns-2 c =
-    let b = c .before .before .before .before in
-    let a = b .before .before .before .before .before .before in
-    let one = puts-line _ [] _ _ _ _ _ _ (search needs) (omega arith) (no-lines _ _) (a .put-report .ensures) in
-    puts-listed _ _ _ _ _ _ (listed-first _ 2 (c .if2 .taken)) (puts-line _ (_ ∷ []) _ _ _ _ _ _ (search needs) (omega arith) one (b .put-report2 .ensures))
+returns-2 c = puts-listed _ _ _ _ _ _ (listed-first _ 2 (c .if2 .taken)) (two (c .before .before .before .before))
 
 put-report-requires-3 : tie.Need-put-report-requires-3
-put-report-requires-3 c κs = search needs
+put-report-requires-3 c κs = line-room _ _ _ _ _ (c .before .before .before .before .before .before .before .before .before .before .before .before .before .before .pre .0) (omega arith) (two (c .before .before .before .before .before))
 
 same-length-3 : tie.Need-same-length-3
-same-length-3 c = search needs
+same-length-3 c = three (c .before .before) .kept
 
 returns-3 : tie.Need-returns-3
 returns-3 c =
-    let d = c .before .before in
-    let two = d .before .before in
-    let b = two .before .before .before .before in
-    let one = b .before .before in
-    let a = one .before .before .before .before in
-    let w1 = puts-line _ [] _ _ _ _ _ _ (search needs) (omega arith) (no-lines _ _) (a .put-report .ensures) in
-    let w2 = puts-line _ (_ ∷ []) _ _ _ _ _ _ (search needs) (omega arith) w1 (b .put-report2 .ensures) in
-    puts-listed _ _ _ _ _ _ (listed-all _ (past _ 2 (past _ 1 (search needs) (one .if1 .left)) (two .if2 .left)))
-    (puts-line _ (_ ∷ _ ∷ []) _ _ _ _ _ _ (search needs) (omega arith) w2 (d .put-report3 .ensures))
+    let w = c .before .before in
+    let h = past _ 2 (past _ 1 (w .before .before .before .before .before .before .before .before .before .before .before .before .before .before .before .pre .1) (w .before .before .before .before .before .before .before .before .if1 .left)) (w .before .before .if2 .left) in
+    puts-listed _ _ _ _ _ _ (listed-all _ h) (three w)
 
 pub write-reports-spec : {M : Type 1} → statement M
 write-reports-spec =
