@@ -1,32 +1,30 @@
 -- Which bytes each state of a link holds, those heard and not yet named: none while it is down or connected with nothing open, at least one while a
--- message is held or damage is skipped, any number in an initialization. Every rule keeps this.
+-- message is held or damage is skipped, any number in an initialization. Every rule keeps this (`rule-goes`): one that makes no report leaves a state that
+-- holds the same bytes; a report 1 to 5 names all that are held; a report 6, 7 or 8 comes while none is.
 -- Assumes nothing.
 use Prim.Native.Nat.{ℕ, _+_, _≤_, _<_}
-use mathlib.Core.Bool.{Bool, true, false, not, _&&_, _||_, false≢true}
-use mathlib.Core.Path.{_≡_, refl, sym}
+use mathlib.Core.Bool.{Bool, true, false, false≢true}
+use mathlib.Core.Path.{_≡_, refl, sym, subst}
 use native.Mathlib.Omega.{arith}
 use lib.Dec.{eqb}
-use Rattle.base.specs.Reports.{frameReport, damageReport, connectedReport, failedReport, noReplyReport, downReport, notIdleReport}
-use Rattle.base.specs.Reports.{noReason, brokenOff, closed, windowOver, wrongLow, stopped, idleOver}
-use Rattle.base.proofs.Tests.{and-split, by-test}
-use Rattle.units.specs.Units.{gapOf}
+use Rattle.base.specs.Choice.{if_then_else_}
+use Rattle.base.specs.Reports.{frameReport, damageReport, connectedReport, failedReport, outsideReport, noReplyReport, downReport, notIdleReport}
+use Rattle.base.proofs.Tests.{by-test}
+use Rattle.units.specs.Units.{micros}
 use Rattle.units.specs.declared.Micros.{Micros}
-use Rattle.timing.specs.Timing.{isPassed}
 use Rattle.events.specs.Events.{isTester}
-use Rattle.events.specs.declared.Side.{Side}
-use Rattle.starts.specs.Starts.{judged, isOver, isLast}
-use Rattle.starts.specs.declared.Start.{Start}
-use Rattle.talk.specs.Talk.{isFirst, laterReason, isSum, isStopped}
-use Rattle.phases.specs.Phases.{isStarting, isQuiet, isOpen, down, starting, connected}
-use Rattle.phases.specs.Phases.{talking, holding, damaged, settled, timed, asked, answered, framed}
+use Rattle.events.specs.declared.Event.{Event}
+use Rattle.phases.specs.Phases.{isStarting, isOpen, down, starting, connected, talking, holding, damaged, settled, timed, asked, answered, framed}
 use Rattle.phases.specs.declared.State.{State}
 use Rattle.phases.specs.declared.State.the-variants.{Down, Starting, Quiet, Held, Damage}
 use Rattle.phases.specs.declared.Phase.{Phase}
-use Rattle.moves.specs.Moves.{makes, isSilent, lossReason, afterSilence, afterP2, afterP3, sinceOrigin, afterWindow, closing, leaving}
-use Rattle.moves.specs.Moves.{isIdle, startingSlow, isGoodLow, startingFast}
-use Rattle.moves.specs.Moves.{startByte, reasonAtFirst, firstByte, laterByte, byteIn, afterByte, afterStop}
+use Rattle.moves.specs.Moves.{still, makes, closing}
 use Rattle.moves.specs.declared.Move.{Move}
+use Rattle.moves.proofs.Rules.{Moment, at-silence, at-p2, at-p3, at-window, at-closing, at-leaving, at-start, at-byte, at-stop, at-end, next, Unmoved, Rule}
+use Rattle.moves.proofs.Rules.{rests, breaks-off, waited, idled, expires, cuts-off, aborts, leaves, starts-slow, starts-fast, hurries, low}
+use Rattle.moves.proofs.Rules.{strays, misses, connects, goes-on, opens, errs, breaks, frames, grows, stops, by-closing}
 use Rattle.reports.specs.Reporting.{namesBytes}
+use Rattle.link.proofs.Long.{tickAt}
 
 -- with n bytes named of h heard
 abbrev pub Holds : State → ℕ → ℕ → Type 0
@@ -59,169 +57,106 @@ holds-some Quiet n h o g = absurd (false≢true o)
 holds-some Held n h o g = g
 holds-some Damage n h o g = g
 
-quiet-none : (st : State) (n h : ℕ) → isQuiet st ≡ true → Holds st n h → n ≡ h
-unfolding isQuiet
-quiet-none Down n h q g = g
-quiet-none Starting n h q g = absurd (false≢true q)
-quiet-none Quiet n h q g = g
-quiet-none Held n h q g = absurd (false≢true q)
-quiet-none Damage n h q g = absurd (false≢true q)
+-- ---- a report that may be made with n bytes named of h heard
+pub data Names (n h : ℕ) : ℕ → Type 0 where
+  frame : n < h → Names n h frameReport
+  damage : n < h → Names n h damageReport
+  success : n < h → Names n h connectedReport
+  failure : n ≤ h → Names n h failedReport
+  outside : h ≡ n + 1 → Names n h outsideReport
+  no-reply : n ≡ h → Names n h noReplyReport
+  left : n ≡ h → Names n h downReport
+  not-idle : n ≡ h → Names n h notIdleReport
 
--- ---- A MOVE THAT MAY BE MADE with n bytes named of h heard: one that makes no report leaves a state that holds the same bytes; a report 1 to 5
--- names them all, and a report 1 or 2 at least one; a report 6, 7 or 8 comes while none is held.
-abbrev pub goesBy : Bool → Bool → Bool → State → ℕ → ℕ → Type 0
-goesBy true names some st n h = Holds st n h
-goesBy false true true st n h = Holds st h h × (n < h)
-goesBy false true false st n h = Holds st h h
-goesBy false false some st n h = Holds st h h × (n ≡ h)
+pub framed-quiet : (p : Phase) → framed p .state ≡ Quiet
+unfolding framed asked answered timed talking
+framed-quiet p = by-test (λ (q : Phase). q .state ≡ Quiet) (isTester (p .message .side)) (λ _. refl) (λ _. refl)
 
-abbrev pub ofSome : ℕ → Bool
-ofSome number = eqb number frameReport || eqb number damageReport
+-- ---- at each moment of an event that finds n0 bytes named of h0 heard
+-- in an initialization, none has been named since
+abbrev pub Same : ℕ → Bool → ℕ → Type 0
+Same n0 true n = n ≡ n0
+Same n0 false n = Unit {0}
 
-abbrev pub Goes : ℕ → ℕ → Move → Type 0
-Goes n h m = goesBy (eqb (m .number) 0) (namesBytes (m .number)) (ofSome (m .number)) (m .phase .state) n h
+module _ (n0 h0 : ℕ) where
+  abbrev pub HoldsAt : Moment → State → ℕ → ℕ → Type 0
+  HoldsAt at-silence st n h = Holds st n h × (h ≡ h0) × Same n0 (isStarting st) n
+  HoldsAt at-p2 st n h = Holds st n h × (h ≡ h0) × Same n0 (isStarting st) n
+  HoldsAt at-p3 st n h = Holds st n h × (h ≡ h0) × Same n0 (isStarting st) n
+  HoldsAt at-window st n h = Holds st n h × (h ≡ h0) × Same n0 (isStarting st) n
+  HoldsAt at-closing st n h = Holds st n h × (h ≡ h0) × Same n0 (isStarting st) n
+  -- what was open is closed
+  HoldsAt at-leaving st n h = Holds st n h × (h ≡ h0) × (n ≡ h)
+  HoldsAt at-start st n h = Holds st n h × (h ≡ h0) × (n ≡ h)
+  -- a byte has been heard, and its rule is yet to come
+  HoldsAt at-byte st n h = Holds st n h0 × (h ≡ h0 + 1) × Same n0 (isStarting st) n
+  HoldsAt at-stop st n h = Holds st n h
+  HoldsAt at-end st n h = Holds st n h
 
-module _ (n h : ℕ) where
-  -- ---- a report, and the phase behind it
-  lost-goes : (p : Phase) (reason : ℕ) → n < h → Goes n h (makes damageReport reason (settled p))
-  unfolding settled talking namesBytes
-  lost-goes p reason g = (refl, g)
+  -- A MOVE THAT MAY BE MADE at the moment k with n bytes named of h heard
+  pub data Goes (k : Moment) (n h : ℕ) : Move → Type 0 where
+    stays : {p : Phase} → HoldsAt (next k) (p .state) n h → Goes k n h (still p)
+    reports : {number reason : ℕ} {p : Phase} → eqb number 0 ≡ false → Names n h number → HoldsAt (next k) (p .state) (if namesBytes number then h else n) h
+        → Goes k n h (makes number reason p)
 
-  waited-goes : (p : Phase) → n ≡ h → Goes n h (makes noReplyReport noReason (settled p))
-  unfolding settled talking namesBytes
-  waited-goes p g = (refl, g)
+  pub goes-names : (k : Moment) (n h : ℕ) (m : Move) → Goes k n h m → eqb (m .number) 0 ≡ false → Names n h (m .number)
+  goes-names k n h m (stays g) z = absurd (false≢true (sym z))
+  goes-names k n h m (reports z w g) y = w
 
-  left-goes : (reason : ℕ) → n ≡ h → Goes n h (makes downReport reason down)
-  unfolding down namesBytes
-  left-goes reason g = (refl, g)
+  module _ (mark : Micros) (e : Event) (p : Phase) (n h : ℕ) where
+    -- in the state that a rule names
+    abbrev In : (st : State) (a : ℕ) → p .state ≡ st → Holds (p .state) n a → Holds st n a
+    In st a q g = subst (λ (x : State). Holds x n a) q g
 
-  busy-goes : n ≡ h → Goes n h (makes notIdleReport noReason down)
-  unfolding down namesBytes
-  busy-goes g = (refl, g)
+    rest-holds : (k : Moment) → Unmoved mark e p k → HoldsAt k (p .state) n h → HoldsAt (next k) (p .state) n h
+    unfolding next
+    rest-holds at-silence u g = g
+    rest-holds at-p2 u g = g
+    rest-holds at-p3 u g = g
+    rest-holds at-window u g = g
+    rest-holds at-closing u g = (g .0, g .1, holds-none (p .state) n h (u .0) (u .1) (g .0))
+    rest-holds at-leaving u g = g
+    rest-holds at-start u g = absurd u
+    rest-holds at-byte u g = subst (λ (x : State). Holds x n h) (sym u) (let x = In Damage h0 u (g .0) in omega (arith, x, g .1))
+    rest-holds at-stop u g = g
+    rest-holds at-end u g = absurd u
 
-  failed-goes : (reason : ℕ) → Goes n h (makes failedReport reason down)
-  unfolding down namesBytes
-  failed-goes reason = refl
+    pub rule-goes : (k : Moment) (m : Move) → Rule mark e p k m → HoldsAt k (p .state) n h → Goes k n h m
+    unfolding next namesBytes down starting connected settled holding damaged talking isStarting
+    rule-goes k m (rests u) g = stays (rest-holds k u g)
+    rule-goes k m (breaks-off o s) g = reports refl (damage (holds-some (p .state) n h o (g .0))) (refl, g .1, tt)
+    rule-goes k m (waited q f t) g = reports refl (no-reply (In Quiet h q (g .0))) (In Quiet h q (g .0), g .1, tt)
+    rule-goes k m (idled q f t) g = reports refl (left (In Quiet h q (g .0))) (In Quiet h q (g .0), g .1, tt)
+    rule-goes k m (expires s o) g = reports refl (failure (In Starting h s (g .0))) (refl, g .1, tt)
+    rule-goes k m (cuts-off o) g = reports refl (damage (holds-some (p .state) n h o (g .0))) (refl, g .1, refl)
+    rule-goes k m (aborts s) g = reports refl (failure (In Starting h s (g .0))) (refl, g .1, refl)
+    rule-goes k m (leaves c q) g = reports refl (left (g .2)) (g .2, g .1, g .2)
+    rule-goes k m (starts-slow a i) g = let x : n ≤ h = omega (arith, g .2) in stays x
+    rule-goes k m (starts-fast w i l) g = let x : n ≤ h = omega (arith, g .2) in stays x
+    rule-goes k m (hurries s i) g = reports refl (not-idle (g .2)) (g .2)
+    rule-goes k m (low w i l) g = reports refl (failure (omega (arith, g .2))) refl
+    rule-goes k m (strays d) g = reports refl (outside (let x = In Down h0 d (g .0) in omega (arith, x, g .1))) refl
+    rule-goes k m (misses s v) g = reports refl (failure (let x = In Starting h0 s (g .0) in omega (arith, x, g .1))) refl
+    rule-goes k m (connects s v l) g = reports refl (success (let x = In Starting h0 s (g .0) in omega (arith, x, g .1))) refl
+    rule-goes k m (goes-on s v l) g = let x : n ≤ h = (let y = In Starting h0 s (g .0) in omega (arith, y, g .1)) in stays x
+    rule-goes k m (opens q r) g = let x : n < h = (let y = In Quiet h0 q (g .0) in omega (arith, y, g .1)) in stays x
+    rule-goes k m (errs q r) g = let x : n < h = (let y = In Quiet h0 q (g .0) in omega (arith, y, g .1)) in stays x
+    rule-goes k m (breaks b r) g = let x : n < h = (let y = In Held h0 b (g .0) in omega (arith, y, g .1)) in stays x
+    rule-goes k m (frames b r s) g =
+        reports refl (frame (let x = In Held h0 b (g .0) in omega (arith, x, g .1))) (subst (λ (x : State). Holds x h h) (sym (framed-quiet p)) refl)
+    rule-goes k m (grows b r s) g = let x : n < h = (let y = In Held h0 b (g .0) in omega (arith, y, g .1)) in stays x
+    rule-goes k m (stops q r) g = reports refl (left (In Quiet h q g)) (In Quiet h q g)
 
-  framed-holds : (p : Phase) → Holds (framed p .state) h h
-  unfolding framed asked answered timed talking
-  framed-holds p = by-test (λ (q : Phase). Holds (q .state) h h) (isTester (p .message .side)) (λ _. refl) (λ _. refl)
-
-  framed-goes : (p : Phase) → n < h → Goes n h (makes frameReport noReason (framed p))
-  unfolding namesBytes
-  framed-goes p g = (framed-holds p, g)
-
-  connected-goes : (start : Start) → Goes n h (makes connectedReport noReason (connected start))
-  unfolding connected namesBytes
-  connected-goes start = refl
-
-module _ (n h : ℕ) where
-  -- ---- time passes
-  pub silence-goes : (p : Phase) (gap : Micros) → Holds (p .state) n h → Goes n h (afterSilence p gap)
-  unfolding afterSilence
-  silence-goes p gap g =
-      by-test (Goes n h) (isOpen (p .state) && isSilent gap)
-      (λ t. lost-goes n h p (lossReason p brokenOff) (holds-some (p .state) n h (and-split (isOpen (p .state)) (isSilent gap) t .0) g)) (λ _. g)
-
-  pub p2-goes : (p : Phase) (gap : Micros) → Holds (p .state) n h → Goes n h (afterP2 p gap)
-  unfolding afterP2
-  p2-goes p gap g =
-      by-test (Goes n h) (isQuiet (p .state) && isFirst (p .reply) && isPassed (p .windows .p2max) gap)
-      (λ t. waited-goes n h p (quiet-none (p .state) n h (and-split (isQuiet (p .state)) (isFirst (p .reply)) (and-split _ _ t .0) .0) g)) (λ _. g)
-
-  pub p3-goes : (p : Phase) (gap : Micros) → Holds (p .state) n h → Goes n h (afterP3 p gap)
-  unfolding afterP3
-  p3-goes p gap g =
-      by-test (Goes n h) (isQuiet (p .state) && not (isFirst (p .reply)) && isPassed (p .windows .p3max) gap)
-      (λ t. left-goes n h idleOver (quiet-none (p .state) n h (and-split (isQuiet (p .state)) (not (isFirst (p .reply))) (and-split _ _ t .0) .0) g))
-      (λ _. g)
-
-  pub window-goes : (p : Phase) (mark time : Micros) → Holds (p .state) n h → Goes n h (afterWindow p mark time)
-  unfolding afterWindow
-  window-goes p mark time g =
-      by-test (Goes n h) (isStarting (p .state) && isOver (p .start) (sinceOrigin p mark time)) (λ _. failed-goes n h windowOver) (λ _. g)
-
-  -- ---- closing
-  pub closing-goes : (p : Phase) → Holds (p .state) n h → Goes n h (closing p)
-  unfolding closing
-  closing-goes p g =
-      by-test (Goes n h) (isOpen (p .state)) (λ t. lost-goes n h p (lossReason p closed) (holds-some (p .state) n h t g))
-      (λ _. by-test (Goes n h) (isStarting (p .state)) (λ _. failed-goes n h closed) (λ _. g))
-
-  pub leaving-goes : (p : Phase) (reason : ℕ) → Holds (p .state) n h → Goes n h (leaving p reason)
-  unfolding leaving
-  leaving-goes p reason g = by-test (Goes n h) (isQuiet (p .state)) (λ t. left-goes n h reason (quiet-none (p .state) n h t g)) (λ _. g)
-
-  -- ---- starts, with no byte held
-  pub slow-goes : (address : ℕ) (mark start : Micros) → n ≡ h → Goes n h (startingSlow address mark start)
-  unfolding startingSlow starting down namesBytes
-  slow-goes address mark start g = by-test (Goes n h) (isIdle mark start) (λ _. omega arith) (λ _. busy-goes n h g)
-
-  pub fast-goes : (mark fall rise : Micros) → n ≡ h → Goes n h (startingFast mark fall rise)
-  unfolding startingFast starting down namesBytes
-  fast-goes mark fall rise g =
-      by-test (Goes n h) (not (isIdle mark fall)) (λ _. busy-goes n h g)
-      (λ _. by-test (Goes n h) (isGoodLow fall rise) (λ _. omega arith) (λ _. failed-goes n h wrongLow))
-
-  -- ---- a byte, which is one more of those heard
-  start-goes : (p : Phase) (side : Side) (v : ℕ) (gap : Micros) → n ≤ h → Goes n (h + 1) (startByte p side v gap)
-  unfolding startByte starting connected down namesBytes
-  start-goes p side v gap g =
-      by-test (Goes n (h + 1)) (not (eqb (judged (p .start) side v gap) noReason)) (λ _. failed-goes n (h + 1) (judged (p .start) side v gap))
-      (λ _. by-test (Goes n (h + 1)) (isLast (p .start .stage)) (λ _. connected-goes n (h + 1) (p .start)) (λ _. omega arith))
-
-  first-holds : (p : Phase) (side : Side) (v : ℕ) (gap : Micros) → n ≡ h → Holds (firstByte p side v gap .state) n (h + 1)
-  unfolding firstByte holding damaged talking
-  first-holds p side v gap g =
-      by-test (λ (q : Phase). Holds (q .state) n (h + 1)) (eqb (reasonAtFirst p side v gap) noReason) (λ _. omega arith) (λ _. omega arith)
-
-  later-goes : (p : Phase) (side : Side) (v : ℕ) → n < h → Goes n (h + 1) (laterByte p side v)
-  unfolding laterByte holding damaged talking namesBytes
-  later-goes p side v g =
-      by-test (Goes n (h + 1)) (not (eqb (laterReason (p .message) side v) noReason)) (λ _. omega arith)
-      (λ _. by-test (Goes n (h + 1)) (isSum (p .message .part)) (λ _. framed-goes n (h + 1) p (omega arith)) (λ _. omega arith))
-
-  damage-holds : (st : State) → st ≡ Damage → n < h → Holds st n (h + 1)
-  damage-holds st e g = rw e (omega arith)
-
-  byte-in : (st : State) (p : Phase) (side : Side) (v : ℕ) (mark start : Micros) → p .state ≡ st → Holds st n h
-      → Goes n (h + 1) (byteIn st p side v mark start)
-  unfolding down namesBytes
-  byte-in Down p side v mark start e g = refl
-  byte-in Starting p side v mark start e g = start-goes p side v (sinceOrigin p mark start) g
-  byte-in Quiet p side v mark start e g = first-holds p side v (gapOf mark start) g
-  byte-in Held p side v mark start e g = later-goes p side v g
-  byte-in Damage p side v mark start e g = damage-holds (p .state) e g
-
-  pub byte-goes : (p : Phase) (side : Side) (v : ℕ) (mark start : Micros) → Holds (p .state) n h → Goes n (h + 1) (afterByte p side v mark start)
-  unfolding afterByte
-  byte-goes p side v mark start g = byte-in (p .state) p side v mark start refl g
-
-  pub stop-goes : (p : Phase) → Holds (p .state) n h → Goes n h (afterStop p)
-  unfolding afterStop
-  stop-goes p g =
-      by-test (Goes n h) (isQuiet (p .state) && isStopped (p .request))
-      (λ t. left-goes n h stopped (quiet-none (p .state) n h (and-split (isQuiet (p .state)) (isStopped (p .request)) t .0) g)) (λ _. g)
-
--- ---- behind A, W or D nothing is open, and no initialization goes on
+-- ---- once A, W or D has closed what was open, nothing is open, and no initialization goes on
 pub record Idle (st : State) : Type 0 where
   pub shut : isOpen st ≡ false
   pub apart : isStarting st ≡ false
 
-settled-idle : (p : Phase) → Idle (settled p .state)
-unfolding settled talking isOpen isStarting
-settled-idle p = record { shut = refl; apart = refl }
-
-down-idle : Idle (down .state)
-unfolding down isOpen isStarting
-down-idle = record { shut = refl; apart = refl }
+rule-idle : (mark : Micros) (e : Event) (p : Phase) (m : Move) → Rule mark e p at-closing m → Idle (m .phase .state)
+unfolding settled talking down isOpen isStarting
+rule-idle mark e p m (rests u) = record { shut = u .0; apart = u .1 }
+rule-idle mark e p m (cuts-off o) = record { shut = refl; apart = refl }
+rule-idle mark e p m (aborts s) = record { shut = refl; apart = refl }
 
 pub closing-idle : (p : Phase) → Idle (closing p .phase .state)
-unfolding closing
-closing-idle p =
-    by-test (λ (m : Move). Idle (m .phase .state)) (isOpen (p .state)) (λ _. settled-idle p)
-    (λ o. by-test (λ (m : Move). Idle (m .phase .state)) (isStarting (p .state)) (λ _. down-idle) (λ s. record { shut = o; apart = s }))
-
-pub leaving-idle : (p : Phase) (reason : ℕ) → Idle (p .state) → Idle (leaving p reason .phase .state)
-unfolding leaving
-leaving-idle p reason i = by-test (λ (m : Move). Idle (m .phase .state)) (isQuiet (p .state)) (λ _. down-idle) (λ _. i)
+closing-idle p = rule-idle (micros 0) (tickAt (micros 0)) p (closing p) (by-closing _ _ p)

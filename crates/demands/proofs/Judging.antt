@@ -1,13 +1,15 @@
 -- How a byte of an initialization is judged: it passes exactly if it is right at the place that the initialization's stage means (Staged.antt). Said once
 -- for all stages of both initializations, with what follows for whole runs.
 -- Assumes nothing.
-use Prim.Native.Nat.{_-_, _≤_}
+use Prim.Native.Nat.{ℕ, _-_, _≤_}
 use mathlib.Core.Bool.{Bool, true, false, not, false≢true}
 use mathlib.Core.Path.{_≡_, _∙_, refl, sym, ap, subst}
 use native.Mathlib.Omega.{arith}
 use borrow.Author.Tests.{ltb-false, le-ltb}
+use lib.Dec.{eqb}
 use Rattle.base.specs.Choice.{if_then_else_}
 use Rattle.base.specs.Reports.{noReason, wrongSide, tooEarly, misfit}
+use Rattle.base.proofs.Tests.{by-test}
 use Rattle.units.specs.Units.{gapOf}
 use Rattle.units.specs.declared.Micros.{Micros}
 use Rattle.events.specs.Events.{isTester, isUnit, isNobody, sameSide}
@@ -31,6 +33,15 @@ judged-by false b c q = absurd (omega arith)
 judged-by true true c q = absurd (omega arith)
 judged-by true false false q = absurd (omega arith)
 judged-by true false true q = (refl, refl, refl)
+
+-- a byte that fails has one of three reasons: what holds of all three holds of its own
+pub misjudged : (P : ℕ → Type 0) → P wrongSide → P tooEarly → P misfit → (s : Start) (side : Side) (v : ℕ) (gap : Micros)
+    → eqb (judged s side v gap) noReason ≡ false → P (judged s side v gap)
+unfolding judged
+misjudged P a b c s side v gap =
+    let Q : ℕ → Type 0 = λ x. eqb x noReason ≡ false → P x in
+    by-test Q (not (isFrom s side)) (λ _ _. a)
+    (λ _. by-test Q (isEarly s gap) (λ _ _. b) (λ _. by-test Q (fits s v) (λ _ z. absurd (false≢true (sym z))) (λ _ _. c)))
 
 pub side-is : (a b : Side) → sameSide a b ≡ true → a ≡ b
 unfolding sameSide isTester isUnit isNobody

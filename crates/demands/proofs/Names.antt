@@ -10,7 +10,7 @@ use lib.Dec.{eqb}
 use lib.ListN.{length, length-append}
 use borrow.Author.Tests.{eqb-true, eqb-false}
 use Rattle.base.specs.Numbers.{taken}
-use Rattle.base.specs.Reports.{connectedReport, noReason, restarted}
+use Rattle.base.specs.Reports.{connectedReport, noReason}
 use Rattle.base.specs.Sums.{countSum}
 use Rattle.units.specs.declared.Micros.{Micros}
 use Rattle.timing.specs.Timing.{setOf}
@@ -24,14 +24,14 @@ use Rattle.phases.specs.declared.Phase.{Phase}
 use Rattle.reports.specs.Reporting.{namesBytes, reportOf, appended, listed, told}
 use Rattle.reports.specs.declared.Report.{Report}
 use Rattle.reports.specs.declared.Run.{Run}
-use Rattle.link.specs.Handling.{passed, hearing, begun, handled, linkAfter}
+use Rattle.link.specs.Handling.{hearing, begun, handled, linkAfter}
 use Rattle.link.specs.Stepping.{takenBy}
 use Rattle.link.specs.declared.Link.{Link}
 use Rattle.demands.specs.Logs.{Log, none, _▷_, markOf, heardOf, numberAfter, takenOf}
 use Rattle.demands.specs.Histories.{reportsTo, after}
 use Rattle.demands.specs.Connecting.{Since, here, tick, byte, Connects, Connected}
 use Rattle.demands.proofs.Holding.{Holds}
-use Rattle.demands.proofs.Tiling.{passed-heard, shut-heard, passed-flows, shut-none, sum-is}
+use Rattle.demands.proofs.Tiling.{start-none, sum-is}
 use Rattle.demands.proofs.Invariant.{timely, kept-of}
 use Rattle.demands.proofs.Basics.{basics, answer-taken}
 use Rattle.demands.proofs.Entering.{Open}
@@ -51,12 +51,7 @@ module _ (l : Link) (log : Log) (e : Event) (t : Behind l log e) (inv : Inv l lo
     (holds : Holds (l .phase .state) (l .named) (l .heard)) where
   -- at a start, what was open is closed, and nothing is held
   told-start : Starts (e .kind) (markOf log) e → handled l e .named ≡ length (heardOf log)
-  unfolding begun
-  told-start s =
-      let r = passed (begun l e) (l .mark) (e .start) in
-      ap (λ (x : Run). x .named) (back-start l log e t inv s)
-      ∙ shut-none r restarted (passed-flows (begun l e) (l .mark) (e .start) holds .holds)
-      ∙ shut-heard r restarted ∙ passed-heard (begun l e) (l .mark) (e .start) ∙ heard
+  told-start s = ap (λ (x : Run). x .named) (back-start l log e t inv s) ∙ start-none l e holds ∙ heard
 
 told-by : (l : Link) (log : Log) (e : Event) → Behind l log e → Inv l log → l .heard ≡ length (heardOf log)
     → Holds (l .phase .state) (l .named) (l .heard)
