@@ -9,7 +9,6 @@ use mathlib.Core.Logic.{_↔_, _⊎_, ⊎-elim}
 use native.Mathlib.Omega.{arith}
 use lib.ListN.{length, drop}
 use Rattle.base.specs.Choice.{if_then_else_}
-use Rattle.base.specs.Numbers.{taken}
 use Rattle.base.specs.Reports.{frameReport, damageReport, noReplyReport, downReport, noReason, brokenOff, early, stray, stopped, idleOver}
 use Rattle.base.proofs.Tests.{and-split, by-test}
 use Rattle.units.specs.Units.{gapOf}
