@@ -29,7 +29,7 @@ use Rattle.demands.specs.Deciding.{Meets}
 use Rattle.demands.proofs.Exactly.{log-taken, log-refused}
 use Rattle.demands.proofs.Names.{since-heard}
 use Rattle.demands.proofs.Failing.{Same, same-way, since-only}
-use Rattle.demands.proofs.Finding.{tells-says}
+use Rattle.demands.proofs.Saying.{tells-says}
 
 -- ---- AN INITIALIZATION GOES ON, OR NOT: by events and reports
 abbrev pub Decided : Type 0 → Type 0
