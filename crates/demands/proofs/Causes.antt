@@ -1,362 +1,477 @@
--- Why an event that is taken makes a report other than of a frame, of damage or of success: by the phase that it finds, by the phase that passing time
--- leaves it, and by the event.
+-- WHY AN EVENT MAKES A REPORT, on any link: told by the phase that it finds and by the event, every report has a cause (`cause-each`), and every cause makes its
+-- report (`..-made`). And where an event leads: to an initialization only as `Leads` says (`leads`), to a connected link only from one, or by the byte that
+-- completes an initialization (`rises`). All of it is one invariant of an event's moments (`J`) that each rule keeps.
 -- Assumes nothing.
-use Prim.Native.Nat.{ℕ}
-use mathlib.Core.Bool.{true, false, false≢true}
+use Prim.Native.Nat.{ℕ, _<_}
+use mathlib.Core.Bool.{Bool, true, false, not, false≢true}
+use mathlib.Core.List.{List, _++_}
 use mathlib.Core.Path.{_≡_, refl, sym, ap, _∙_, subst}
 use mathlib.Core.Logic.{_⊎_, inl, inr}
 use native.Mathlib.Omega.{arith}
-use Rattle.base.specs.Numbers.{taken}
+use borrow.Author.Tests.{eqb-true, eq-eqb}
+use lib.Dec.{eqb}
 use Rattle.base.specs.Reports.{frameReport, damageReport, connectedReport, failedReport, outsideReport, noReplyReport, downReport, notIdleReport}
-use Rattle.base.specs.Reports.{noReason, closed, windowOver, wrongLow, stopped, idleOver, dropped, restarted}
+use Rattle.base.specs.Reports.{noReason, brokenOff, closed, windowOver, wrongLow, wrongSide, tooEarly, misfit, stopped, idleOver, dropped, restarted}
+use Rattle.base.proofs.Tests.{by-test}
 use Rattle.units.specs.Units.{gapOf}
 use Rattle.units.specs.declared.Micros.{Micros}
+use Rattle.events.specs.Events.{isTester, isByte}
 use Rattle.events.specs.declared.Kind.{Kind}
 use Rattle.events.specs.declared.Kind.the-variants.{Address, WakeUp, Byte, Tick, Drop, Other}
 use Rattle.events.specs.declared.Event.{Event}
-use Rattle.starts.specs.Starts.{judged}
-use Rattle.phases.specs.Phases.{isStarting, isConnected, down}
-use Rattle.phases.specs.declared.State.{State}
-use Rattle.phases.specs.declared.State.the-variants.{Down}
+use Rattle.starts.specs.Starts.{fits, isFrom, isEarly, judged, isOver, isLast, onward}
+use Rattle.talk.specs.Talk.{isStopped}
+use Rattle.phases.specs.Phases.{isStarting, isQuiet, isOpen, isConnected, down, off, starting, connected, talking, holding, damaged, settled, timed, asked, answered, framed}
+use Rattle.phases.specs.declared.State.the-variants.{Quiet}
 use Rattle.phases.specs.declared.Phase.{Phase}
-use Rattle.moves.specs.Moves.{sinceOrigin, isIdle, isGoodLow, startingSlow, startingFast}
+use Rattle.phases.proofs.StateTests.{is-starting, is-quiet, open-connected, quiet-connected, open-or, never-starting, quiet-is, starting-is}
+use Rattle.moves.specs.Moves.{makes, lossReason, isSilent, sinceOrigin, isIdle, isGoodLow}
+use Rattle.moves.specs.declared.Move.{Move}
+use Rattle.moves.proofs.Rules.{Moment, at-silence, at-p2, at-p3, at-window, at-closing, at-leaving, at-start, at-byte, at-stop, at-end, next}
+use Rattle.moves.proofs.Rules.{Closes, by-drop, by-address, by-wake-up, Rule, rests, breaks-off, cuts-off, aborts, leaves, starts-slow, starts-fast, hurries, low}
+use Rattle.moves.proofs.Rules.{strays, misses, connects, goes-on, opens, errs, breaks, frames, grows, stops, one-move}
 use Rattle.reports.specs.declared.Report.{Report}
+use Rattle.reports.specs.Reporting.{moved}
 use Rattle.reports.specs.declared.Run.{Run}
-use Rattle.link.specs.Handling.{passed, shut, begun}
+use Rattle.link.specs.Handling.{passed, begun, handled}
 use Rattle.link.specs.declared.Link.{Link}
-use Rattle.link.specs.Telling.{tells, passedTells, shutTells, actedTells, handledTells}
-use Rattle.link.proofs.Long.{Long, fresh-long, step-long}
-use Rattle.demands.specs.Logs.{Log, none, _▷_, numberAfter, takenOf}
-use Rattle.demands.specs.Histories.{after, reportsTo, Says, Among, Tells}
+use Rattle.link.specs.Telling.{tells, handledTells}
+use Rattle.link.proofs.Walk.{moved-phase, Reached, time-walk-by, event-walk-by}
+use Rattle.link.proofs.Long.{Long}
+use Rattle.demands.specs.Histories.{Tells}
 use Rattle.demands.specs.Endings.{Starter}
-use Rattle.demands.proofs.Saying.{each-none, each-both}
-use Rattle.demands.proofs.Going.{never-starting}
-use Rattle.demands.proofs.Finding.{says-speaks, tells-says, tells-left, tells-right, move-tells, EachOf, move-each, reports-made, taken-by-report}
-use Rattle.demands.proofs.Passing.{Waited, Idled, Over, Leaves, over, idle, up, same, passed-leaves, passed-each, waited-tells, idled-tells, over-tells}
-use Rattle.demands.proofs.Acting.{Misses, shut-each, starting-tells, connected-tells, slow-makes, slow-not-idle, fast-makes, fast-not-idle, fast-wrong-low, byte-each, byte-tells, byte-down}
-use Rattle.demands.specs.Ours.{ours}
+use Rattle.demands.proofs.Saying.{each-none, each-both, tells-left, tells-right, move-tells, EachOf, Makes, silent, move-each}
+use Rattle.demands.proofs.Entering.{In, Open, judges, Completes, Leads, begins-slow, begins-fast, waits}
+use Rattle.demands.proofs.Entering.{grows as goes-further}
+use Rattle.demands.proofs.Passing.{Waited, Idled, Over, Lasts, First, found, Second, Third, Fourth, Left, IsDown, due-second, due-third, due-fourth}
+use Rattle.demands.proofs.Passing.{first-rule, second-rule, third-rule, fourth-rule, in-left, still-in, up-left, still-up, down-left, is-down, still-open}
 
+-- ---- kinds apart
 -- A, W or D
 abbrev pub Closer : Event → Type 0
 Closer e = Starter e ⊎ (e .kind ≡ Drop)
 
--- ---- the causes: p is the phase that the event finds, q the one that time leaves it
-module _ (p q : Phase) (mark : Micros) (e : Event) where
+abbrev pub isCloser : Kind → Bool
+isCloser Address = true
+isCloser WakeUp = true
+isCloser Byte = false
+isCloser Tick = false
+isCloser Drop = true
+isCloser Other = false
+
+pub no-closer : (e : Event) (k : Kind) → isCloser k ≡ false → e .kind ≡ k → Closer e → ⊥
+no-closer e k x p (inl (inl q)) = false≢true (sym x ∙ (sym (ap isCloser p) ∙ ap isCloser q))
+no-closer e k x p (inl (inr q)) = false≢true (sym x ∙ (sym (ap isCloser p) ∙ ap isCloser q))
+no-closer e k x p (inr q) = false≢true (sym x ∙ (sym (ap isCloser p) ∙ ap isCloser q))
+
+pub no-byte : (e : Event) (k : Kind) → isByte k ≡ false → e .kind ≡ k → e .kind ≡ Byte → ⊥
+unfolding isByte
+no-byte e k x p q = false≢true (sym x ∙ (sym (ap isByte p) ∙ ap isByte q))
+
+drop-starts : (e : Event) → e .kind ≡ Drop → Starter e → ⊥
+drop-starts e d (inl a) = let z : _≡_ {A = ℕ} 0 1 = cc in omega arith
+drop-starts e d (inr a) = let z : _≡_ {A = ℕ} 0 1 = cc in omega arith
+
+-- ---- tests
+pub false-of : (b : Bool) → (b ≡ true → ⊥) → b ≡ false
+false-of true n = absurd (n refl)
+false-of false n = refl
+
+abbrev when : Bool → Type 0 → Type 0 → Type 0
+when true A B = A
+when false A B = B
+
+framed-apart : (p : Phase) → isStarting (framed p .state) ≡ false
+unfolding framed asked answered timed talking isStarting
+framed-apart p =
+    by-test (λ (q : Phase). isStarting (q .state) ≡ false) (isTester (p .message .side)) {x = asked p} {y = answered p} (λ _. refl) (λ _. refl)
+
+module _ (l : Link) (e : Event) where
+  abbrev p : Phase
+  p = l .phase
+
+  abbrev gap : Micros
+  gap = gapOf (l .mark) (e .start)
+
+  abbrev Up : Phase → Type 0
+  Up q = isConnected (q .state) ≡ true
+
+  abbrev Ran : Type 0
+  Ran = Over p (l .mark) (e .start)
+
+  -- ---- THE CAUSES
   -- of a report 4, by its reason; a byte that fails gives the greater ones
   pub data Fails : ℕ → Type 0 where
-    runs-out : Over p mark (e .start) → Fails windowOver
-    closes : isStarting (q .state) ≡ true → Closer e → Fails closed
-    low : e .kind ≡ WakeUp → isIdle mark (e .start) ≡ true → isGoodLow (e .start) (e .end) ≡ false → Fails wrongLow
-    wrong : isStarting (q .state) ≡ true → e .kind ≡ Byte → Misses q (e .side) (e .value) (sinceOrigin q mark (e .start))
-        → Fails (judged (q .start) (e .side) (e .value) (sinceOrigin q mark (e .start)))
+    runs-out : Ran → Fails windowOver
+    closes : In p → (Ran → ⊥) → Closer e → Fails closed
+    falls-short : e .kind ≡ WakeUp → isIdle (l .mark) (e .start) ≡ true → isGoodLow (e .start) (e .end) ≡ false → Fails wrongLow
+    wrong : In p → (Ran → ⊥) → e .kind ≡ Byte → wrongLow < judges l e p → Fails (judges l e p)
 
-  -- of a report 7
-  pub data DownFor : ℕ → Type 0 where
-    stops : isConnected (q .state) ≡ true → DownFor stopped
-    idles : Idled p (gapOf mark (e .start)) → DownFor idleOver
-    drops : isConnected (q .state) ≡ true → e .kind ≡ Drop → DownFor dropped
-    restarts : isConnected (q .state) ≡ true → Starter e → DownFor restarted
-
-  pub data Cause : ℕ → ℕ → Type 0 where
-    frame : {k : ℕ} → Cause frameReport k
-    damage : {k : ℕ} → Cause damageReport k
-    success : {k : ℕ} → Cause connectedReport k
-    fails : {k : ℕ} → Fails k → Cause failedReport k
-    outside : {k : ℕ} → q .state ≡ Down → e .kind ≡ Byte → Cause outsideReport k
-    waits : {k : ℕ} → Waited p (gapOf mark (e .start)) → Cause noReplyReport k
-    downs : {k : ℕ} → DownFor k → Cause downReport k
-    not-idle : {k : ℕ} → Starter e → isIdle mark (e .start) ≡ false → Cause notIdleReport k
-
-  -- ---- the cause of a report, by its number and reason
-  pub of-fail : {n k : ℕ} → Cause n k → n ≡ failedReport → Fails k
-  of-fail frame z = absurd (omega arith)
-  of-fail damage z = absurd (omega arith)
-  of-fail success z = absurd (omega arith)
-  of-fail (fails f) z = f
-  of-fail (outside d b) z = absurd (omega arith)
-  of-fail (waits w) z = absurd (omega arith)
-  of-fail (downs d) z = absurd (omega arith)
-  of-fail (not-idle s i) z = absurd (omega arith)
-
-  pub of-outside : {n k : ℕ} → Cause n k → n ≡ outsideReport → (q .state ≡ Down) × (e .kind ≡ Byte)
-  of-outside frame z = absurd (omega arith)
-  of-outside damage z = absurd (omega arith)
-  of-outside success z = absurd (omega arith)
-  of-outside (fails f) z = absurd (omega arith)
-  of-outside (outside d b) z = (d, b)
-  of-outside (waits w) z = absurd (omega arith)
-  of-outside (downs d) z = absurd (omega arith)
-  of-outside (not-idle s i) z = absurd (omega arith)
-
-  pub of-wait : {n k : ℕ} → Cause n k → n ≡ noReplyReport → Waited p (gapOf mark (e .start))
-  of-wait frame z = absurd (omega arith)
-  of-wait damage z = absurd (omega arith)
-  of-wait success z = absurd (omega arith)
-  of-wait (fails f) z = absurd (omega arith)
-  of-wait (outside d b) z = absurd (omega arith)
-  of-wait (waits w) z = w
-  of-wait (downs d) z = absurd (omega arith)
-  of-wait (not-idle s i) z = absurd (omega arith)
-
-  pub of-down : {n k : ℕ} → Cause n k → n ≡ downReport → DownFor k
-  of-down frame z = absurd (omega arith)
-  of-down damage z = absurd (omega arith)
-  of-down success z = absurd (omega arith)
-  of-down (fails f) z = absurd (omega arith)
-  of-down (outside d b) z = absurd (omega arith)
-  of-down (waits w) z = absurd (omega arith)
-  of-down (downs d) z = d
-  of-down (not-idle s i) z = absurd (omega arith)
-
-  pub of-not-idle : {n k : ℕ} → Cause n k → n ≡ notIdleReport → Starter e × (isIdle mark (e .start) ≡ false)
-  of-not-idle frame z = absurd (omega arith)
-  of-not-idle damage z = absurd (omega arith)
-  of-not-idle success z = absurd (omega arith)
-  of-not-idle (fails f) z = absurd (omega arith)
-  of-not-idle (outside d b) z = absurd (omega arith)
-  of-not-idle (waits w) z = absurd (omega arith)
-  of-not-idle (downs d) z = absurd (omega arith)
-  of-not-idle (not-idle s i) z = (s, i)
-
-  pub of-over : {k : ℕ} → Fails k → k ≡ windowOver → Over p mark (e .start)
+  pub of-over : {k : ℕ} → Fails k → k ≡ windowOver → Ran
   of-over (runs-out o) z = o
-  of-over (closes s c) z = absurd (omega arith)
-  of-over (low w i l) z = absurd (omega arith)
-  of-over (wrong s b h) z = absurd (omega arith)
+  of-over (closes i o c) z = absurd (omega arith)
+  of-over (falls-short w i g) z = absurd (omega arith)
+  of-over (wrong i o b h) z = absurd (omega arith)
 
-  pub of-closed : {k : ℕ} → Fails k → k ≡ closed → (isStarting (q .state) ≡ true) × Closer e
+  pub of-closed : {k : ℕ} → Fails k → k ≡ closed → In p × (Ran → ⊥) × Closer e
   of-closed (runs-out o) z = absurd (omega arith)
-  of-closed (closes s c) z = (s, c)
-  of-closed (low w i l) z = absurd (omega arith)
-  of-closed (wrong s b h) z = absurd (omega arith)
+  of-closed (closes i o c) z = (i, o, c)
+  of-closed (falls-short w i g) z = absurd (omega arith)
+  of-closed (wrong i o b h) z = absurd (omega arith)
 
-  pub of-low : {k : ℕ} → Fails k → k ≡ wrongLow → (e .kind ≡ WakeUp) × (isIdle mark (e .start) ≡ true) × (isGoodLow (e .start) (e .end) ≡ false)
+  pub of-low : {k : ℕ} → Fails k → k ≡ wrongLow → (e .kind ≡ WakeUp) × (isIdle (l .mark) (e .start) ≡ true) × (isGoodLow (e .start) (e .end) ≡ false)
   of-low (runs-out o) z = absurd (omega arith)
-  of-low (closes s c) z = absurd (omega arith)
-  of-low (low w i l) z = (w, i, l)
-  of-low (wrong s b h) z = absurd (omega arith)
+  of-low (closes i o c) z = absurd (omega arith)
+  of-low (falls-short w i g) z = (w, i, g)
+  of-low (wrong i o b h) z = absurd (omega arith)
 
-  pub of-idle : {k : ℕ} → DownFor k → k ≡ idleOver → Idled p (gapOf mark (e .start))
-  of-idle (stops c) z = absurd (omega arith)
-  of-idle (idles i) z = i
-  of-idle (drops c d) z = absurd (omega arith)
-  of-idle (restarts c s) z = absurd (omega arith)
+  -- of a report 7, by its reason, on a connected link
+  abbrev pub DownFor : ℕ → Type 0
+  DownFor k =
+      when (eqb k stopped) (Unit {0})
+      (when (eqb k idleOver) (Idled p gap)
+      (when (eqb k dropped) (Lasts (l .mark) e p × (e .kind ≡ Drop))
+      (when (eqb k restarted) (Lasts (l .mark) e p × Starter e) ⊥)))
 
-  pub of-dropped : {k : ℕ} → DownFor k → k ≡ dropped → (isConnected (q .state) ≡ true) × (e .kind ≡ Drop)
-  of-dropped (stops c) z = absurd (omega arith)
-  of-dropped (idles i) z = absurd (omega arith)
-  of-dropped (drops c d) z = (c, d)
-  of-dropped (restarts c s) z = absurd (omega arith)
+  -- of any, by its number
+  abbrev pub Cause : ℕ → ℕ → Type 0
+  Cause n k =
+      when (eqb n frameReport) (Up p)
+      (when (eqb n damageReport) (Up p)
+      (when (eqb n connectedReport) (Completes l e)
+      (when (eqb n failedReport) (Fails k)
+      (when (eqb n outsideReport) (IsDown (l .mark) e p × (e .kind ≡ Byte))
+      (when (eqb n noReplyReport) (Waited p gap)
+      (when (eqb n downReport) (Up p × DownFor k)
+      (when (eqb n notIdleReport) (Starter e × (isIdle (l .mark) (e .start) ≡ false)) ⊥)))))))
 
-  pub of-restarted : {k : ℕ} → DownFor k → k ≡ restarted → (isConnected (q .state) ≡ true) × Starter e
-  of-restarted (stops c) z = absurd (omega arith)
-  of-restarted (idles i) z = absurd (omega arith)
-  of-restarted (drops c d) z = absurd (omega arith)
-  of-restarted (restarts c s) z = (c, s)
+  -- ---- WHAT HOLDS AT EACH MOMENT of the phase q that the link has come to
+  -- what was open is closed: what is connected was so before
+  record Shut (q : Phase) : Type 0 where
+    out : In q → ⊥
+    shut : isOpen (q .state) ≡ false
+    up : Up q → Up p × Lasts (l .mark) e p
+    quiet : Up p → (Idled p gap → ⊥) → isQuiet (q .state) ≡ true
 
--- ---- the phase that time leaves, told by the one that it found
-module _ (p : Phase) (mark start : Micros) where
-  down-off : isConnected (down .state) ≡ false
-  unfolding down isConnected
-  down-off = refl
+  abbrev IsOff : Phase → Type 0
+  IsOff q = (In q → ⊥) × (Up q → ⊥)
 
-  down-apart : isStarting (down .state) ≡ false
-  unfolding down isStarting
-  down-apart = refl
+  abbrev After : Phase → Type 0
+  After q = (In q → Leads l e q) × (Up q → Up p ⊎ Completes l e)
 
-  down-down : down .state ≡ Down
-  unfolding down
-  down-down = refl
+  record Heard (q : Phase) : Type 0 where
+    after : After q
+    stops-up : q .state ≡ Quiet → isStopped (q .request) ≡ true → Up p
 
-  pub was-connected : (q : Phase) → Leaves p mark start q → isConnected (q .state) ≡ true → (isConnected (p .state) ≡ true) × (Idled p (gapOf mark start) → ⊥)
-  was-connected q (over o) c = absurd (false≢true (sym down-off ∙ c))
-  was-connected q (idle i) c = absurd (false≢true (sym down-off ∙ c))
-  was-connected q (up n b s d) c = (b, n)
-  was-connected q (same b n) c = absurd (false≢true (sym b ∙ c))
+  abbrev J : Moment → Phase → Type 0
+  J at-silence q = First (l .mark) e p q
+  J at-p2 q = Second (l .mark) e p q
+  J at-p3 q = Third (l .mark) e p q
+  J at-window q = Fourth (l .mark) e p q
+  J at-closing q = Left (l .mark) e p q
+  J at-leaving q = Shut q
+  J at-start q = IsOff q
+  J at-byte q = Left (l .mark) e p q
+  J at-stop q = Heard q
+  J at-end q = After q
 
-  pub still-connected : (q : Phase) → Leaves p mark start q → isConnected (p .state) ≡ true → (Idled p (gapOf mark start) → ⊥) → isConnected (q .state) ≡ true
-  still-connected q (over o) c n = absurd (never-starting (p .state) c (o .0))
-  still-connected q (idle i) c n = absurd (n i)
-  still-connected q (up m b s d) c n = d
-  still-connected q (same b m) c n = absurd (false≢true (sym b ∙ c))
+  abbrev At : Moment → Phase → Move → Type 0
+  At k q m = Rule (l .mark) e q k m
 
-  pub was-starting : (q : Phase) → Leaves p mark start q → isStarting (q .state) ≡ true → (isStarting (p .state) ≡ true) × (Over p mark start → ⊥)
-  was-starting q (over o) s = absurd (false≢true (sym down-apart ∙ s))
-  was-starting q (idle i) s = absurd (false≢true (sym down-apart ∙ s))
-  was-starting q (up n b x d) s = absurd (never-starting (q .state) d s)
-  was-starting q (same b n) s = (s, n)
+  -- ---- EACH RULE KEEPS IT, and its report has its cause
+  quiet-of : (q : Phase) → Up q → isOpen (q .state) ≡ false → isQuiet (q .state) ≡ true
+  quiet-of q u o = open-or (isQuiet (q .state) ≡ true) (q .state) u (λ x. absurd (false≢true (sym o ∙ x))) (λ x. x)
 
-  pub still-starting : (q : Phase) → Leaves p mark start q → isStarting (p .state) ≡ true → (Over p mark start → ⊥) → isStarting (q .state) ≡ true
-  still-starting q (over o) s n = absurd (n o)
-  still-starting q (idle i) s n = absurd (never-starting (p .state) (i .0) s)
-  still-starting q (up m b x d) s n = absurd (never-starting (p .state) b s)
-  still-starting q (same b m) s n = s
+  closing-rule : (q : Phase) (m : Move) → Closer e → Left (l .mark) e p q → At at-closing q m → Shut (m .phase) × Makes Cause m
+  unfolding down settled talking isStarting isOpen isConnected isQuiet
+  closing-rule q m c j (rests u) = (
+    record { out = λ i. false≢true (sym (u .1) ∙ i); shut = u .0; up = up-left _ e p j; quiet = λ a n. quiet-of q (still-up _ e p j a n) (u .0) },
+    silent Cause q,
+  )
+  closing-rule q m c j (cuts-off o) =
+      let a = up-left _ e p j (open-connected (q .state) o) in
+      (record { out = λ i. false≢true i; shut = refl; up = λ _. a; quiet = λ _ _. refl }, λ _. a .0)
+  closing-rule q m c j (aborts s) =
+      let x = in-left _ e p j (starting-is s) in (
+        record {
+          out = λ i. false≢true i;
+          shut = refl;
+          up = λ a. absurd (false≢true a);
+          quiet = λ a n. absurd (never-starting (q .state) (still-up _ e p j a n) (starting-is s));
+        },
+        λ _. closes (x .1) (x .2) c,
+      )
 
-  -- down already, or by time
-  abbrev pub IsDown : Type 0
-  IsDown = (p .state ≡ Down) ⊎ Over p mark start ⊎ Idled p (gapOf mark start)
+  downs-by : {reason : ℕ} → Closes e reason → Lasts (l .mark) e p → DownFor reason
+  downs-by (by-drop k) n = (n, k)
+  downs-by (by-address k) n = (n, inl k)
+  downs-by (by-wake-up k) n = (n, inr k)
 
-  not-down : (st : State) → st ≡ Down → isConnected st ≡ true → ⊥
-  unfolding isConnected
-  not-down st q c = false≢true (sym (ap isConnected q) ∙ c)
+  leaving-rule : (q : Phase) (m : Move) → Shut q → At at-leaving q m → IsOff (m .phase) × Makes Cause m
+  unfolding down isStarting isConnected
+  leaving-rule q m j (rests u) = ((j .out, λ a. false≢true (sym u ∙ quiet-of q a (j .shut))), silent Cause q)
+  leaving-rule q m j (leaves c k) =
+      let x = j .up (quiet-connected (q .state) (quiet-is k)) in
+      ((λ i. false≢true i, λ a. false≢true a), λ _. (x .0, downs-by c (x .1)))
 
-  pub was-down : (q : Phase) → Leaves p mark start q → q .state ≡ Down → IsDown
-  was-down q (over o) d = inr (inl o)
-  was-down q (idle i) d = inr (inr i)
-  was-down q (up n b x c) d = absurd (not-down (q .state) d c)
-  was-down q (same b n) d = inl d
+  start-rule : (q : Phase) (m : Move) → At at-start q m → After (m .phase) × Makes Cause m
+  unfolding down starting isStarting isConnected
+  start-rule q m (rests u) = absurd u
+  start-rule q m (starts-slow k i) = ((λ _. begins-slow k i, λ a. absurd (false≢true a)), silent Cause (m .phase))
+  start-rule q m (starts-fast k i g) = ((λ _. begins-fast k i g, λ a. absurd (false≢true a)), silent Cause (m .phase))
+  start-rule q m (hurries s i) = ((λ a. absurd (false≢true a), λ a. absurd (false≢true a)), λ _. (s, i))
+  start-rule q m (low k i g) = ((λ a. absurd (false≢true a), λ a. absurd (false≢true a)), λ _. falls-short k i g)
 
-  pub is-down : (q : Phase) → Leaves p mark start q → IsDown → q .state ≡ Down
-  is-down q (over o) x = down-down
-  is-down q (idle i) x = down-down
-  is-down q (up n b x c) (inl d) = absurd (not-down (p .state) d b)
-  is-down q (up n b x c) (inr (inl o)) = absurd (never-starting (p .state) b (o .0))
-  is-down q (up n b x c) (inr (inr i)) = absurd (n i)
-  is-down q (same b n) (inl d) = d
-  is-down q (same b n) (inr (inl o)) = absurd (n o)
-  is-down q (same b n) (inr (inr i)) = absurd (false≢true (sym b ∙ i .0))
+  -- a byte that fails its initialization does so for a reason of its own
+  judged-above : (q : Phase) → eqb (judges l e q) noReason ≡ false → wrongLow < judges l e q
+  unfolding judged
+  judged-above q =
+      let s = q .start in
+      let P : ℕ → Type 0 = λ k. eqb k noReason ≡ false → wrongLow < k in
+      by-test P (not (isFrom s (e .side))) {x = wrongSide} (λ _ _. omega arith)
+      (λ _. by-test P (isEarly s (sinceOrigin q (l .mark) (e .start))) {x = tooEarly} (λ _ _. omega arith)
+      (λ _. by-test P (fits s (e .value)) {x = noReason} {y = misfit} (λ _ z. absurd (false≢true (sym z))) (λ _ _. omega arith)))
 
--- ---- AN EVENT THAT IS TAKEN
-abbrev pub leftBy : Link → Event → Run
-leftBy l e = passed (begun l e) (l .mark) (e .start)
+  open-window : (Ran → ⊥) → In p → Open p (l .mark) (e .start)
+  open-window n i = false-of (isOver (p .start) (sinceOrigin p (l .mark) (e .start))) (λ o. n (i, o))
 
-module _ (l : Link) (e : Event) (g : Long (l .phase)) where
-  abbrev r : Run
-  r = leftBy l e
+  heard-off : Heard down
+  unfolding down isStarting isConnected isQuiet
+  heard-off = record { after = (λ i. absurd (false≢true i), λ a. absurd (false≢true a)); stops-up = λ q _. absurd (false≢true (ap isQuiet q)) }
 
-  abbrev Because : ℕ → ℕ → Type 0
-  Because = Cause (l .phase) (r .phase) (l .mark) e
+  heard-up : (q : Phase) → isStarting (q .state) ≡ false → Up p → Heard q
+  heard-up q s u = record { after = (λ i. absurd (false≢true (sym s ∙ i)), λ _. inl u); stops-up = λ _ _. u }
 
-  abbrev P : Report → Type 0
-  P x = Because (x .number) (x .reason)
+  byte-rule : (q : Phase) (m : Move) → e .kind ≡ Byte → Left (l .mark) e p q → At at-byte q m → Heard (m .phase) × Makes Cause m
+  unfolding starting connected talking holding damaged isStarting isConnected isQuiet isStopped
+  byte-rule q m k j (rests d) = (heard-up q (ap isStarting d) (up-left _ e p j (ap isConnected d) .0), silent Cause q)
+  byte-rule q m k j (strays d) = (heard-off, λ _. (down-left _ e p j d, k))
+  byte-rule q m k j (misses s v) =
+      let x = in-left _ e p j (starting-is s) in
+      (heard-off, λ _. subst (λ (y : Phase). eqb (judges l e y) noReason ≡ false → Fails (judges l e y)) (sym (x .0))
+      (λ z. wrong (x .1) (x .2) k (judged-above p z)) v)
+  byte-rule q m k j (connects s v z) =
+      let x = in-left _ e p j (starting-is s) in
+      let c : Completes l e = record {
+        byte = k;
+        was = x .1;
+        window = open-window (x .2) (x .1);
+        right = sym (ap (judges l e) (x .0)) ∙ eqb-true (judges l e q) noReason v;
+        last = sym (ap (λ (y : Phase). isLast (y .start .stage)) (x .0)) ∙ z;
+      } in
+      (record { after = (λ i. absurd (false≢true i), λ _. inr c); stops-up = λ _ r. absurd (false≢true r) }, λ _. c)
+  byte-rule q m k j (goes-on s v z) =
+      let x = in-left _ e p j (starting-is s) in
+      let g = goes-further k (x .1) (open-window (x .2) (x .1)) (sym (ap (judges l e) (x .0)) ∙ eqb-true (judges l e q) noReason v)
+      (sym (ap (λ (y : Phase). isLast (y .start .stage)) (x .0)) ∙ z) in (
+        record {
+          after = (
+            λ _. subst (λ (y : Phase). Leads l e (starting (y .fall) (onward (y .start) (e .value)))) (sym (x .0)) g,
+            λ a. absurd (false≢true a),
+          );
+          stops-up = λ b _. absurd (false≢true (ap isQuiet b));
+        },
+        silent Cause (m .phase),
+      )
+  byte-rule q m k j (opens h r) = (heard-up (m .phase) refl (up-left _ e p j (ap isConnected h) .0), silent Cause (m .phase))
+  byte-rule q m k j (errs h r) = (heard-up (m .phase) refl (up-left _ e p j (ap isConnected h) .0), silent Cause (m .phase))
+  byte-rule q m k j (breaks h r) = (heard-up (m .phase) refl (up-left _ e p j (ap isConnected h) .0), silent Cause (m .phase))
+  byte-rule q m k j (grows h r z) = (heard-up (m .phase) refl (up-left _ e p j (ap isConnected h) .0), silent Cause (m .phase))
+  byte-rule q m k j (frames h r z) = let u = up-left _ e p j (ap isConnected h) .0 in (heard-up (m .phase) (framed-apart q) u, λ _. u)
 
-  left : Leaves (l .phase) (l .mark) (e .start) (r .phase)
-  unfolding begun
-  left = passed-leaves (begun l e) (l .mark) (e .start) g
+  stop-rule : (q : Phase) (m : Move) → Heard q → At at-stop q m → After (m .phase) × Makes Cause m
+  unfolding down isStarting isConnected
+  stop-rule q m j (rests u) = (j .after, silent Cause q)
+  stop-rule q m j (stops h r) = ((λ i. absurd (false≢true i), λ a. absurd (false≢true a)), λ _. (j .stops-up h r, tt))
 
-  passing-each : EachOf Because (passedTells (begun l e) (l .mark) (e .start))
-  unfolding begun
-  passing-each = passed-each (begun l e) (l .mark) (e .start) g Because (λ k. damage) waits (λ i. downs (idles i)) (λ o. fails (runs-out o))
+  rule : (k : Moment) → Reached e k → (q : Phase) (m : Move) → At k q m → J k q → J (next k) (m .phase) × Makes Cause m
+  unfolding next
+  rule at-silence w q m u j = first-rule _ e p Cause (λ o k. open-connected (p .state) o) q m j u
+  rule at-p2 w q m u j = second-rule _ e p Cause (λ x. x) q m j u
+  rule at-p3 w q m u j = third-rule _ e p Cause (λ i. (i .0, i)) q m j u
+  rule at-window w q m u j = fourth-rule _ e p Cause runs-out q m j u
+  rule at-closing w q m u j = closing-rule q m w j u
+  rule at-leaving w q m u j = leaving-rule q m j u
+  rule at-start w q m u j = start-rule q m u
+  rule at-byte w q m u j = byte-rule q m w j u
+  rule at-stop w q m u j = stop-rule q m j u
+  rule at-end w q m (rests u) j = absurd u
 
-  shutting-each : (reason : ℕ) → Closer e → (isConnected (r .phase .state) ≡ true → DownFor (l .phase) (r .phase) (l .mark) e reason) → EachOf Because (shutTells r reason)
-  shutting-each reason c d = shut-each r reason Because (λ k. damage) (λ s. fails (closes s c)) (λ u. downs (d u))
+  -- a drop ends when all is closed, a tick when time has passed
+  leaves-on : (q : Phase) → IsOff q → After q
+  leaves-on q o = (λ i. absurd (o .0 i), λ a. absurd (o .1 a))
 
-  acting-each : (k : Kind) → e .kind ≡ k → EachOf Because (actedTells k r e (l .mark))
-  acting-each Address k =
-      each-both P (shutTells r restarted) (tells (shut r restarted) (startingSlow (e .value) (l .mark) (e .start)))
-      (shutting-each restarted (inl (inl k)) (λ u. restarts u (inl k)))
-      (move-each Because (shut r restarted) _ (slow-makes Because (e .value) (l .mark) (e .start) (not-idle (inl k))))
-  acting-each WakeUp k =
-      each-both P (shutTells r restarted) (tells (shut r restarted) (startingFast (l .mark) (e .start) (e .end)))
-      (shutting-each restarted (inl (inr k)) (λ u. restarts u (inr k)))
-      (move-each Because (shut r restarted) _ (fast-makes Because (l .mark) (e .start) (e .end) (not-idle (inr k)) (λ i w. fails (low k i w))))
-  acting-each Byte k = byte-each Because r e (l .mark) (λ _. frame) success (λ s h. fails (wrong s k h)) (λ d. outside d k) (λ u. downs (stops u))
-  acting-each Tick k = each-none P
-  acting-each Drop k = shutting-each dropped (inr k) (λ u. drops u k)
-  acting-each Other k = each-none P
+  ends-on : (e .kind ≡ Tick) ⊎ (e .kind ≡ Other) → (q : Phase) → Left (l .mark) e p q → After q
+  ends-on k q j = (
+    λ i.
+        let x = in-left _ e p j i in
+        subst (Leads l e) (sym (x .0)) (waits k (x .1) (open-window (x .2) (x .1))),
+    λ a. inl (up-left _ e p j a .0),
+  )
+
+  -- ---- AN EVENT
+  abbrev I : Moment → Run → List Report → Type 0
+  I k r xs = J k (r .phase) × EachOf Cause xs
+
+  keeps : (k : Moment) (r : Run) (m : Move) → J (next k) (m .phase) → J (next k) (moved r m .phase)
+  keeps k r m j = subst (J (next k)) (sym (moved-phase r m)) j
+
+  moves : (k : Moment) → Reached e k → (r : Run) (xs : List Report) (m : Move) → At k (r .phase) m → I k r xs → I (next k) (moved r m) (xs ++ tells r m)
+  moves k w r xs m u i =
+      let x = rule k w (r .phase) m u (i .0) in
+      (keeps k r m (x .0), each-both (λ (y : Report). Cause (y .number) (y .reason)) xs (tells r m) (i .1) (move-each Cause r m (x .1)))
+
+  whole : I at-end (handled l e) (handledTells l e)
+  unfolding handled handledTells begun
+  whole =
+      event-walk-by (l .mark) e I moves (λ _ r xs i. i) (λ _ r xs i. (leaves-on (r .phase) (i .0), i .1)) (λ k r xs i. (ends-on k (r .phase) (i .0), i .1))
+      (begun l e) (found, each-none (λ (y : Report). Cause (y .number) (y .reason)))
 
   -- EACH OF ITS REPORTS HAS A CAUSE
-  cause-each : EachOf Because (handledTells l e)
-  unfolding handledTells
-  cause-each =
-      each-both P (passedTells (begun l e) (l .mark) (e .start)) (actedTells (e .kind) r e (l .mark)) passing-each (acting-each (e .kind) refl)
+  pub cause-each : EachOf Cause (handledTells l e)
+  cause-each = whole .1
 
-  -- ---- and the causes make their reports
-  by-passing : (number reason : ℕ) → Tells number reason (passedTells (begun l e) (l .mark) (e .start)) → Tells number reason (handledTells l e)
-  unfolding handledTells
-  by-passing number reason t = tells-left number reason (passedTells (begun l e) (l .mark) (e .start)) (actedTells (e .kind) r e (l .mark)) t
+  -- WHERE IT LEADS
+  pub leads : In (handled l e .phase) → Leads l e (handled l e .phase)
+  leads = whole .0 .0
 
-  pub by-acting : (number reason : ℕ) (k : Kind) → e .kind ≡ k → Tells number reason (actedTells k r e (l .mark)) → Tells number reason (handledTells l e)
-  unfolding handledTells
-  by-acting number reason k q t =
-      tells-right number reason (passedTells (begun l e) (l .mark) (e .start)) (actedTells (e .kind) r e (l .mark))
-      (subst (λ (x : Kind). Tells number reason (actedTells x r e (l .mark))) (sym q) t)
+  pub rises : isConnected (handled l e .phase .state) ≡ true → (isConnected (l .phase .state) ≡ true) ⊎ Completes l e
+  rises = whole .0 .1
 
-  pub waits-made : Waited (l .phase) (gapOf (l .mark) (e .start)) → Tells noReplyReport noReason (handledTells l e)
+  -- what time leaves
+  pub left : Left (l .mark) e (l .phase) (passed (begun l e) (l .mark) (e .start) .phase)
   unfolding begun
-  waits-made w = by-passing noReplyReport noReason (waited-tells (begun l e) (l .mark) (e .start) g w)
+  left = time-walk-by (l .mark) e I moves (begun l e) (found, each-none (λ (y : Report). Cause (y .number) (y .reason))) .0
 
-  pub idles-made : Idled (l .phase) (gapOf (l .mark) (e .start)) → Tells downReport idleOver (handledTells l e)
-  unfolding begun
-  idles-made i = by-passing downReport idleOver (idled-tells (begun l e) (l .mark) (e .start) g i)
+  -- ---- THE CAUSES MAKE THEIR REPORTS
+  -- a report that is to come: now, by a rule, or at a later moment
+  data Due (n s : ℕ) : Moment → Type 0 where
+    now : {k : Moment} → Reached e k → (to : Phase → Phase) → ((q : Phase) → J k q → At k q (makes n s (to q))) → Due n s k
+    later : {k : Moment} → Reached e k → Due n s (next k) → Due n s k
+    heard : e .kind ≡ Byte → Due n s at-byte → Due n s at-closing
 
-  pub over-made : Over (l .phase) (l .mark) (e .start) → Tells failedReport windowOver (handledTells l e)
-  unfolding begun
-  over-made o = by-passing failedReport windowOver (over-tells (begun l e) (l .mark) (e .start) g o)
+  module _ (n s : ℕ) (some : eqb n 0 ≡ false) where
+    abbrev Made : Moment → Run → List Report → Type 0
+    Made k r xs = J k (r .phase) × (Due n s k ⊎ Tells n s xs)
 
-  pub closed-made : isStarting (r .phase .state) ≡ true → Closer e → Tells failedReport closed (handledTells l e)
-  closed-made s (inl (inl k)) = by-acting failedReport closed Address k (tells-left failedReport closed (shutTells r restarted) _ (starting-tells r restarted s))
-  closed-made s (inl (inr k)) = by-acting failedReport closed WakeUp k (tells-left failedReport closed (shutTells r restarted) _ (starting-tells r restarted s))
-  closed-made s (inr k) = by-acting failedReport closed Drop k (starting-tells r dropped s)
+    on : (k : Moment) → Reached e k → (r : Run) (xs : List Report) (m : Move) → At k (r .phase) m → J k (r .phase) → Due n s k ⊎ Tells n s xs
+        → Due n s (next k) ⊎ Tells n s (xs ++ tells r m)
+    on k w r xs m u j (inl (now v to f)) =
+        inr (tells-right n s xs (tells r m) (move-tells r m n s (to (r .phase)) some (one-move _ e (r .phase) u (f (r .phase) j))))
+    on k w r xs m u j (inl (later v d)) = inl d
+    on k w r xs m u j (inl (heard b d)) = absurd (no-closer e Byte refl b w)
+    on k w r xs m u j (inr t) = inr (tells-left n s xs (tells r m) t)
 
-  pub dropped-made : isConnected (r .phase .state) ≡ true → e .kind ≡ Drop → Tells downReport dropped (handledTells l e)
-  dropped-made c k = by-acting downReport dropped Drop k (connected-tells r dropped c)
+    on-byte : e .kind ≡ Byte → (xs : List Report) → Due n s at-closing ⊎ Tells n s xs → Due n s at-byte ⊎ Tells n s xs
+    on-byte b xs (inl (now v to f)) = absurd (no-closer e Byte refl b v)
+    on-byte b xs (inl (later v d)) = absurd (no-closer e Byte refl b v)
+    on-byte b xs (inl (heard _ d)) = inl d
+    on-byte b xs (inr t) = inr t
 
-  pub restarted-made : isConnected (r .phase .state) ≡ true → Starter e → Tells downReport restarted (handledTells l e)
-  restarted-made c (inl k) = by-acting downReport restarted Address k (tells-left downReport restarted (shutTells r restarted) _ (connected-tells r restarted c))
-  restarted-made c (inr k) = by-acting downReport restarted WakeUp k (tells-left downReport restarted (shutTells r restarted) _ (connected-tells r restarted c))
+    on-drop : e .kind ≡ Drop → (xs : List Report) → Due n s at-start ⊎ Tells n s xs → Tells n s xs
+    on-drop k xs (inl (now v to f)) = absurd (drop-starts e k v)
+    on-drop k xs (inl (later v d)) = absurd (drop-starts e k v)
+    on-drop k xs (inr t) = t
+
+    on-tick : (k : Kind) → isCloser k ≡ false → isByte k ≡ false → e .kind ≡ k → (xs : List Report) → Due n s at-closing ⊎ Tells n s xs → Tells n s xs
+    on-tick k c b q xs (inl (now v to f)) = absurd (no-closer e k c q v)
+    on-tick k c b q xs (inl (later v d)) = absurd (no-closer e k c q v)
+    on-tick k c b q xs (inl (heard h d)) = absurd (no-byte e k b q h)
+    on-tick k c b q xs (inr t) = t
+
+    ticks : (e .kind ≡ Tick) ⊎ (e .kind ≡ Other) → (xs : List Report) → Due n s at-closing ⊎ Tells n s xs → Tells n s xs
+    unfolding isByte
+    ticks (inl k) xs t = on-tick Tick refl refl k xs t
+    ticks (inr k) xs t = on-tick Other refl refl k xs t
+
+    no-rule : (q : Phase) (m : Move) → At at-end q m → ⊥
+    no-rule q m (rests u) = u
+
+    never : (q : Phase) → After q → Due n s at-end → ⊥
+    unfolding next
+    never q j (now v to f) = no-rule q (makes n s (to q)) (f q j)
+    never q j (later v d) = never q j d
+
+    in-the-end : (r : Run) (xs : List Report) → Made at-end r xs → Tells n s xs
+    in-the-end r xs (j, inl d) = absurd (never (r .phase) j d)
+    in-the-end r xs (j, inr t) = t
+
+    made : Due n s at-silence → Tells n s (handledTells l e)
+    unfolding handled handledTells begun
+    made d =
+        in-the-end (handled l e) (handledTells l e)
+        (event-walk-by (l .mark) e Made (λ k w r xs m u i. (keeps k r m (rule k w (r .phase) m u (i .0) .0), on k w r xs m u (i .0) (i .1)))
+        (λ b r xs i. (i .0, on-byte b xs (i .1))) (λ k r xs i. (leaves-on (r .phase) (i .0), inr (on-drop k xs (i .1))))
+        (λ k r xs i. (ends-on k (r .phase) (i .0), inr (ticks k xs (i .1)))) (begun l e) (found, inl d))
+
+  acting : {n s : ℕ} → Due n s at-closing → Due n s at-silence
+  unfolding next
+  acting d = later tt (later tt (later tt (later tt d)))
+
+  pub broken-made : isOpen (p .state) ≡ true → isSilent gap ≡ true → Tells damageReport (lossReason p brokenOff) (handledTells l e)
+  broken-made o s = made damageReport (lossReason p brokenOff) refl (now tt settled first)
+    where
+      first : (q : Phase) → First (l .mark) e p q → At at-silence q (makes damageReport (lossReason p brokenOff) (settled q))
+      first q found = breaks-off o s
+
+  pub cut-made : Long p → isOpen (p .state) ≡ true → isSilent gap ≡ false → Closer e → Tells damageReport (lossReason p closed) (handledTells l e)
+  cut-made g o s c =
+      made damageReport (lossReason p closed) refl
+      (acting (now c settled (λ q j. subst (λ (y : Phase). At at-closing y (makes damageReport (lossReason p closed) (settled y))) (sym (still-open _ e p j g o s))
+      (cuts-off o))))
+
+  pub waits-made : Waited p gap → Tells noReplyReport noReason (handledTells l e)
+  unfolding next
+  waits-made w = made noReplyReport noReason refl (later tt (now tt settled (λ q j. due-second _ e p j w)))
+
+  pub idles-made : Long p → Idled p gap → Tells downReport idleOver (handledTells l e)
+  unfolding next
+  idles-made g i = made downReport idleOver refl (later tt (later tt (now tt (λ _. down) (λ q j. due-third _ e p j g i))))
+
+  pub over-made : Ran → Tells failedReport windowOver (handledTells l e)
+  unfolding next
+  over-made o = made failedReport windowOver refl (later tt (later tt (later tt (now tt (λ _. off) (λ q j. due-fourth _ e p j o)))))
+
+  is-in : (q : Phase) → q ≡ p → In p → In q
+  is-in q x i = ap (λ (y : Phase). isStarting (y .state)) x ∙ i
+
+  pub closed-made : In p → (Ran → ⊥) → Closer e → Tells failedReport closed (handledTells l e)
+  closed-made i n c =
+      made failedReport closed refl (acting (now c (λ _. off) (λ q j. aborts (is-starting (q .state) (is-in q (still-in _ e p j i n) i)))))
+
+  leaves-made : {reason : ℕ} → Closes e reason → Closer e → Up p → (Idled p gap → ⊥) → Tells downReport reason (handledTells l e)
+  unfolding next
+  leaves-made {reason = reason} c w u n =
+      made downReport reason refl (acting (later w (now w (λ _. off) (λ q j. leaves c (is-quiet (q .state) (j .quiet u n))))))
+
+  pub dropped-made : Up p → (Idled p gap → ⊥) → e .kind ≡ Drop → Tells downReport dropped (handledTells l e)
+  dropped-made u n k = leaves-made (by-drop k) (inr k) u n
+
+  pub restarted-made : Up p → (Idled p gap → ⊥) → Starter e → Tells downReport restarted (handledTells l e)
+  restarted-made u n (inl k) = leaves-made (by-address k) (inl (inl k)) u n
+  restarted-made u n (inr k) = leaves-made (by-wake-up k) (inl (inr k)) u n
 
   pub not-idle-made : Starter e → isIdle (l .mark) (e .start) ≡ false → Tells notIdleReport noReason (handledTells l e)
-  not-idle-made (inl k) i =
-      by-acting notIdleReport noReason Address k
-      (tells-right notIdleReport noReason (shutTells r restarted) _ (move-tells (shut r restarted) _ notIdleReport noReason down refl (slow-not-idle (e .value) (l .mark) (e .start) i)))
-  not-idle-made (inr k) i =
-      by-acting notIdleReport noReason WakeUp k
-      (tells-right notIdleReport noReason (shutTells r restarted) _ (move-tells (shut r restarted) _ notIdleReport noReason down refl (fast-not-idle (l .mark) (e .start) (e .end) i)))
+  unfolding next
+  not-idle-made s i = made notIdleReport noReason refl (acting (later (inl s) (later (inl s) (now s (λ _. down) (λ q j. hurries s i)))))
 
   pub low-made : e .kind ≡ WakeUp → isIdle (l .mark) (e .start) ≡ true → isGoodLow (e .start) (e .end) ≡ false → Tells failedReport wrongLow (handledTells l e)
-  low-made k i w =
-      by-acting failedReport wrongLow WakeUp k
-      (tells-right failedReport wrongLow (shutTells r restarted) _ (move-tells (shut r restarted) _ failedReport wrongLow down refl (fast-wrong-low (l .mark) (e .start) (e .end) i w)))
+  unfolding next
+  low-made k i g =
+      made failedReport wrongLow refl (acting (later (inl (inr k)) (later (inl (inr k)) (now (inr k) (λ _. off) (λ q j. low k i g)))))
 
-  pub outside-made : r .phase .state ≡ Down → e .kind ≡ Byte → Tells outsideReport noReason (handledTells l e)
-  outside-made d k = by-acting outsideReport noReason Byte k (byte-tells r e (l .mark) outsideReport noReason down refl (byte-down (r .phase) (e .side) (e .value) (l .mark) (e .start) d))
+  pub outside-made : Long p → IsDown (l .mark) e p → e .kind ≡ Byte → Tells outsideReport noReason (handledTells l e)
+  outside-made g d k = made outsideReport noReason refl (acting (heard k (now k (λ _. down) (λ q j. strays (is-down _ e p j g d)))))
 
--- ---- behind events
-pub long-of : (es : Log) → Long (after ours es .link .phase)
-unfolding after
-long-of none = fresh-long
-long-of (es ▷ e) = step-long (after ours es .link) (after ours es .counts) e (long-of es)
+  pub wrong-made : e .kind ≡ Byte → In p → (Ran → ⊥) → eqb (judges l e p) noReason ≡ false → Tells failedReport (judges l e p) (handledTells l e)
+  wrong-made k i n v =
+      made failedReport (judges l e p) refl
+      (acting (heard k (now k (λ _. off) (λ q j. subst (λ (y : Phase). At at-byte y (makes failedReport (judges l e p) off)) (sym (still-in _ e p j i n))
+      (misses (is-starting (p .state) i) v)))))
 
-module _ (es : Log) (e : Event) where
-  abbrev here : Link
-  here = after ours es .link
-
-  abbrev pub CauseAt : ℕ → ℕ → Type 0
-  CauseAt = Cause (here .phase) (leftBy here e .phase) (here .mark) e
-
-  cause-at : (x : Report) → Among x (reportsTo ours es e) → CauseAt (x .number) (x .reason)
-  cause-at x i = cause-each here e (long-of es) x (subst (Among x) (reports-made es e (taken-by-report es e x i)) i)
-
-  pub made-at : (number reason : ℕ) → numberAfter (takenOf es) e ≡ taken → Tells number reason (handledTells here e) → Tells number reason (reportsTo ours es e)
-  made-at number reason n t = subst (Tells number reason) (sym (reports-made es e n)) t
-
-  pub left-at : Leaves (here .phase) (here .mark) (e .start) (leftBy here e .phase)
-  left-at = left here e (long-of es)
-
-  -- a report of this number and reason: the event is taken, and there is a cause
-  pub record Caused (number reason : ℕ) : Type 0 where
-    pub number-is : numberAfter (takenOf es) e ≡ taken
-    pub cause : CauseAt number reason
-
-  pub tells-caused : (number reason : ℕ) → Tells number reason (reportsTo ours es e) → Caused number reason
-  tells-caused number reason t = record {
-    number-is = taken-by-report es e (t .report) (t .made);
-    cause = subst (λ (k : ℕ). CauseAt number k) (t .reason-is) (subst (λ (n : ℕ). CauseAt n (t .report .reason)) (t .number-is) (cause-at (t .report) (t .made)));
-  }
-
-  -- a report of this number
-  pub record Spoken (number : ℕ) : Type 0 where
-    pub reason : ℕ
-    pub caused : Caused number reason
-
-  pub says-caused : (number : ℕ) → Says number (reportsTo ours es e) → Spoken number
-  says-caused number s =
-      let x = says-speaks number (reportsTo ours es e) s in
-      record {
-        reason = x .report .reason;
-        caused = tells-caused number (x .report .reason) (record { report = x .report; made = x .made; number-is = x .number-is; reason-is = refl });
-      }
-
-  pub says-made : (number reason : ℕ) → numberAfter (takenOf es) e ≡ taken → Tells number reason (handledTells here e) → Says number (reportsTo ours es e)
-  says-made number reason n t = tells-says number reason (reportsTo ours es e) (made-at number reason n t)
+  pub last-made : e .kind ≡ Byte → In p → (Ran → ⊥) → judges l e p ≡ noReason → isLast (p .start .stage) ≡ true
+      → Tells connectedReport noReason (handledTells l e)
+  last-made k i n v z =
+      made connectedReport noReason refl
+      (acting (heard k (now k (λ (q : Phase). connected (q .start)) (λ q j. subst (λ (y : Phase). At at-byte y (makes connectedReport noReason (connected (y .start))))
+      (sym (still-in _ e p j i n)) (connects (is-starting (p .state) i) (eq-eqb (judges l e p) noReason v) z)))))

@@ -1,57 +1,46 @@
--- Report 3 of any link and any event: it is made by a byte that finds an initialization with its window open, is right, and is the last; by nothing
--- else; and it is then the only one.
+-- What an event makes of an initialization, on any link: the run that it leads to where it starts one, where a byte lets it go on or completes it, and where it
+-- waits. The byte that completes it is answered with report 3 and no other, and report 3 is made by nothing else.
 -- Assumes nothing.
 use Prim.Native.Nat.{ℕ}
-use mathlib.Core.Bool.{Bool, true, false, not, _&&_, _||_, false≢true}
-use mathlib.Core.List.{List, [], _∷_, _++_}
-use mathlib.Core.Path.{_≡_, _∙_, refl, sym, ap}
-use native.Mathlib.Omega.{arith}
-use lib.Dec.{eqb}
-use borrow.Author.Tests.{eqb-true, eq-eqb}
-use Rattle.base.specs.Reports.{noReason, connectedReport, dropped, restarted}
-use Rattle.base.proofs.Tests.{by-test}
-use Rattle.units.specs.Units.{gapOf}
+use mathlib.Core.Bool.{true, false, _&&_}
+use mathlib.Core.List.{_++_, append-nil}
+use mathlib.Core.Logic.{_⊎_, inl, inr}
+use mathlib.Core.Path.{_≡_, _∙_, refl, sym, ap, subst}
+use borrow.Author.Tests.{eq-eqb}
+use Rattle.base.specs.Reports.{noReason, connectedReport, restarted}
+use Rattle.units.specs.Units.{micros}
 use Rattle.units.specs.declared.Micros.{Micros}
-use Rattle.timing.specs.Timing.{isPassed}
 use Rattle.events.specs.declared.Kind.{Kind}
-use Rattle.events.specs.declared.Kind.the-variants.{Address, WakeUp, Byte, Tick, Drop, Other}
-use Rattle.events.specs.declared.Side.{Side}
+use Rattle.events.specs.declared.Kind.the-variants.{Address, WakeUp, Byte, Tick, Other}
 use Rattle.events.specs.declared.Event.{Event}
-use Rattle.starts.specs.Starts.{judged, isOver, isLast}
+use Rattle.starts.specs.Starts.{isLast, onward, slowStart, fastStart}
 use Rattle.starts.specs.declared.Start.{Start}
-use Rattle.talk.specs.Talk.{isFirst, laterReason, isSum, isStopped}
-use Rattle.phases.specs.Phases.{isStarting, isQuiet, isOpen, connected}
-use Rattle.phases.specs.declared.State.{State}
-use Rattle.phases.specs.declared.State.the-variants.{Down, Starting, Quiet, Held, Damage}
+use Rattle.talk.specs.Talk.{isStopped}
+use Rattle.phases.specs.Phases.{isQuiet, starting, connected}
 use Rattle.phases.specs.declared.Phase.{Phase}
-use Rattle.moves.specs.Moves.{makes, isSilent, afterSilence, afterP2, afterP3, sinceOrigin, afterWindow, closing, leaving}
-use Rattle.moves.specs.Moves.{isIdle, startingSlow, isGoodLow, startingFast, laterByte, byteIn, afterByte, afterStop}
+use Rattle.phases.proofs.StateTests.{is-starting}
+use Rattle.moves.specs.Moves.{still, makes, isIdle, startingSlow, isGoodLow, startingFast, afterByte, afterStop}
 use Rattle.moves.specs.declared.Move.{Move}
-use Rattle.reports.specs.Reporting.{reportOf, appended, listed, told, moved}
-use Rattle.reports.specs.declared.Report.{Report}
+use Rattle.moves.proofs.Rules.{at-byte, Rule, rests, starts-slow, starts-fast, connects, goes-on, by-slow, by-fast, by-byte, by-stop, one-move}
+use Rattle.reports.specs.Reporting.{reportOf, appended, listed, told, withPhase, moved}
 use Rattle.reports.specs.declared.Run.{Run}
 use Rattle.link.specs.Handling.{passed, shut, hearing, byteHeard, actedBy, acted, begun, handled}
 use Rattle.link.specs.declared.Link.{Link}
-use Rattle.link.specs.Telling.{tells, passedTells, shutTells, byteTells, actedTells, handledTells}
+use Rattle.link.specs.Telling.{tells, byteTells, handledTells}
+use Rattle.link.proofs.Walk.{moved-phase}
 use Rattle.link.proofs.Three.{three-enough}
 use Rattle.demands.specs.Histories.{isAmong, Says}
-use Rattle.demands.proofs.Entering.{In, Open, passed-in, passed-open, byte-starts, start-ends, start-three}
-
--- THE BYTE COMPLETES THE INITIALIZATION THAT THE LINK IS IN
-pub record Completes (l : Link) (e : Event) : Type 0 where
-  pub byte : e .kind ≡ Byte
-  pub was : In (l .phase)
-  pub window : Open (l .phase) (l .mark) (e .start)
-  pub right : judged (l .phase .start) (e .side) (e .value) (sinceOrigin (l .phase) (l .mark) (e .start)) ≡ noReason
-  pub last : isLast (l .phase .start .stage) ≡ true
+use Rattle.demands.proofs.Saying.{says-speaks}
+use Rattle.demands.proofs.Entering.{In, Open, passed-open, judges, Completes}
+use Rattle.demands.proofs.Causes.{Cause, cause-each}
 
 -- ---- what an event does, by its kind
 module _ (r : Run) (e : Event) (mark : Micros) where
-  pub acted-slow : e .kind ≡ Address → acted r e mark ≡ moved (shut r restarted) (startingSlow (e .value) mark (e .start))
+  acted-slow : e .kind ≡ Address → acted r e mark ≡ moved (shut r restarted) (startingSlow (e .value) mark (e .start))
   unfolding acted
   acted-slow k = ap (λ (x : Kind). actedBy x r e mark) k
 
-  pub acted-fast : e .kind ≡ WakeUp → acted r e mark ≡ moved (shut r restarted) (startingFast mark (e .start) (e .end))
+  acted-fast : e .kind ≡ WakeUp → acted r e mark ≡ moved (shut r restarted) (startingFast mark (e .start) (e .end))
   unfolding acted
   acted-fast k = ap (λ (x : Kind). actedBy x r e mark) k
 
@@ -63,187 +52,92 @@ module _ (r : Run) (e : Event) (mark : Micros) where
   unfolding acted
   acted-tick k = ap (λ (x : Kind). actedBy x r e mark) k
 
-  pub acted-drop : e .kind ≡ Drop → acted r e mark ≡ shut r dropped
+  acted-other : e .kind ≡ Other → acted r e mark ≡ r
   unfolding acted
-  acted-drop k = ap (λ (x : Kind). actedBy x r e mark) k
+  acted-other k = ap (λ (x : Kind). actedBy x r e mark) k
 
--- ---- such a byte connects the link, with one report
+  -- a byte after which no stop comes: its own move is all
+  module _ (m : Move) (u : Rule mark e (r .phase) at-byte m) (n : (isQuiet (m .phase .state) && isStopped (m .phase .request)) ≡ false) where
+    abbrev r1 : Run
+    r1 = moved (hearing r) (afterByte (r .phase) (e .side) (e .value) mark (e .start))
+
+    move-is : afterByte (r .phase) (e .side) (e .value) mark (e .start) ≡ m
+    move-is = one-move mark e (r .phase) (by-byte mark e (r .phase)) u
+
+    no-stop : afterStop (r1 .phase) ≡ still (r1 .phase)
+    no-stop =
+        let q = moved-phase (hearing r) _ ∙ ap (λ (x : Move). x .phase) move-is in
+        one-move mark e (r1 .phase) (by-stop mark e (r1 .phase)) (rests (ap (λ (x : Phase). isQuiet (x .state) && isStopped (x .request)) q ∙ n))
+
+    still-there : (s : Run) → moved s (still (s .phase)) ≡ s
+    unfolding moved
+    still-there s = refl
+
+    none-told : (s : Run) → tells (hearing r) m ++ tells s (still (s .phase)) ≡ tells (hearing r) m
+    unfolding tells
+    none-told s = append-nil (tells (hearing r) m)
+
+    pub heard-move : byteHeard r e mark ≡ moved (hearing r) m
+    unfolding byteHeard
+    heard-move = ap (moved r1) no-stop ∙ still-there r1 ∙ ap (moved (hearing r)) move-is
+
+    pub heard-tells : byteTells r e mark ≡ tells (hearing r) m
+    unfolding byteTells
+    heard-tells =
+        ap (λ (x : Move). tells (hearing r) (afterByte (r .phase) (e .side) (e .value) mark (e .start)) ++ tells r1 x) no-stop
+        ∙ ap (λ (x : Move). tells (hearing r) x ++ tells r1 (still (r1 .phase))) move-is ∙ none-told r1
+
+-- ---- the runs that an event leads to
 abbrev pub connecting : Start → Move
 connecting s = makes connectedReport noReason (connected s)
 
-heard-ends : (r : Run) (e : Event) (mark : Micros) (s : Start) → afterByte (r .phase) (e .side) (e .value) mark (e .start) ≡ connecting s
-    → byteHeard r e mark ≡ told (hearing r) (connecting s)
-unfolding byteHeard moved afterStop connected isQuiet isStopped told
-heard-ends r e mark s h = rw h refl
+module _ (l : Link) (e : Event) where
+  abbrev r : Run
+  r = passed (begun l e) (l .mark) (e .start)
 
-pub completes-run : (l : Link) (e : Event) → Completes l e → handled l e ≡ told (hearing (begun l e)) (connecting (l .phase .start))
-unfolding handled begun
-completes-run l e c =
-    let b = begun l e in
-    ap (λ (x : Run). acted x e (l .mark)) (passed-open b (l .mark) (e .start) (c .was) (c .window))
-    ∙ acted-byte b e (l .mark) (c .byte)
-    ∙ heard-ends b e (l .mark) (l .phase .start)
-    (byte-starts (l .phase) (e .side) (e .value) (l .mark) (e .start) (c .was) ∙ start-ends (l .phase) (e .side) (e .value) _ (c .right) (c .last))
+  -- it starts an initialization
+  pub slow-run : e .kind ≡ Address → isIdle (l .mark) (e .start) ≡ true → handled l e ≡ withPhase (shut r restarted) (starting (micros 0) (slowStart (e .value)))
+  unfolding handled moved
+  slow-run k i = acted-slow r e (l .mark) k ∙ ap (moved (shut r restarted)) (one-move _ e _ (by-slow _ e (shut r restarted .phase) k) (starts-slow k i))
 
-pub completes-says : (l : Link) (e : Event) → Completes l e → Says connectedReport (listed (handled l e .reports))
-unfolding told begun appended listed reportOf isAmong
-completes-says l e c = ap (λ (x : Run). isAmong connectedReport (listed (x .reports))) (completes-run l e c)
+  pub fast-run : e .kind ≡ WakeUp → isIdle (l .mark) (e .start) ≡ true → isGoodLow (e .start) (e .end) ≡ true
+      → handled l e ≡ withPhase (shut r restarted) (starting (e .start) fastStart)
+  unfolding handled moved
+  fast-run k i g = acted-fast r e (l .mark) k ∙ ap (moved (shut r restarted)) (one-move _ e _ (by-fast _ e (shut r restarted .phase) k) (starts-fast k i g))
 
--- ---- the moves that make no report 3
-abbrev Not3 : Move → Type 0
-Not3 m = eqb (m .number) connectedReport ≡ false
+  -- it finds one with its window open
+  module _ (i : In (l .phase)) (o : Open (l .phase) (l .mark) (e .start)) where
+    stays : r ≡ begun l e
+    unfolding begun
+    stays = passed-open (begun l e) (l .mark) (e .start) i o
 
-silence-other : (p : Phase) (gap : Micros) → Not3 (afterSilence p gap)
-unfolding afterSilence
-silence-other p gap = by-test Not3 (isOpen (p .state) && isSilent gap) (λ _. refl) (λ _. refl)
+    pub wait-run : (e .kind ≡ Tick) ⊎ (e .kind ≡ Other) → handled l e ≡ begun l e
+    unfolding handled
+    wait-run (inl k) = acted-tick r e (l .mark) k ∙ stays
+    wait-run (inr k) = acted-other r e (l .mark) k ∙ stays
 
-p2-other : (p : Phase) (gap : Micros) → Not3 (afterP2 p gap)
-unfolding afterP2
-p2-other p gap = by-test Not3 (isQuiet (p .state) && isFirst (p .reply) && isPassed (p .windows .p2max) gap) (λ _. refl) (λ _. refl)
+    byte-run : e .kind ≡ Byte → handled l e ≡ byteHeard (begun l e) e (l .mark)
+    unfolding handled
+    byte-run k = acted-byte r e (l .mark) k ∙ ap (λ (x : Run). byteHeard x e (l .mark)) stays
 
-p3-other : (p : Phase) (gap : Micros) → Not3 (afterP3 p gap)
-unfolding afterP3
-p3-other p gap = by-test Not3 (isQuiet (p .state) && not (isFirst (p .reply)) && isPassed (p .windows .p3max) gap) (λ _. refl) (λ _. refl)
+    pub right-run : e .kind ≡ Byte → judges l e (l .phase) ≡ noReason → isLast (l .phase .start .stage) ≡ false
+        → handled l e ≡ withPhase (hearing (begun l e)) (starting (l .phase .fall) (onward (l .phase .start) (e .value)))
+    unfolding begun moved starting isQuiet
+    right-run k v z =
+        byte-run k ∙ heard-move (begun l e) e (l .mark) _ (goes-on (is-starting (l .phase .state) i) (eq-eqb (judges l e (l .phase)) noReason v) z) refl
 
-window-other : (p : Phase) (mark time : Micros) → Not3 (afterWindow p mark time)
-unfolding afterWindow
-window-other p mark time = by-test Not3 (isStarting (p .state) && isOver (p .start) (sinceOrigin p mark time)) (λ _. refl) (λ _. refl)
+  pub completes-run : Completes l e → handled l e ≡ told (hearing (begun l e)) (connecting (l .phase .start))
+  unfolding begun moved connected isQuiet isStopped
+  completes-run c =
+      byte-run (c .was) (c .window) (c .byte)
+      ∙ heard-move (begun l e) e (l .mark) _ (connects (is-starting (l .phase .state) (c .was)) (eq-eqb (judges l e (l .phase)) noReason (c .right)) (c .last)) refl
 
-closing-other : (p : Phase) → Not3 (closing p)
-unfolding closing
-closing-other p = by-test Not3 (isOpen (p .state)) (λ _. refl) (λ _. by-test Not3 (isStarting (p .state)) (λ _. refl) (λ _. refl))
+  pub completes-says : Completes l e → Says connectedReport (listed (handled l e .reports))
+  unfolding told begun appended listed reportOf isAmong
+  completes-says c = ap (λ (x : Run). isAmong connectedReport (listed (x .reports))) (completes-run c)
 
-leaving-other : (p : Phase) (reason : ℕ) → Not3 (leaving p reason)
-unfolding leaving
-leaving-other p reason = by-test Not3 (isQuiet (p .state)) (λ _. refl) (λ _. refl)
-
-slow-other : (address : ℕ) (mark start : Micros) → Not3 (startingSlow address mark start)
-unfolding startingSlow
-slow-other address mark start = by-test Not3 (isIdle mark start) (λ _. refl) (λ _. refl)
-
-fast-other : (mark fall rise : Micros) → Not3 (startingFast mark fall rise)
-unfolding startingFast
-fast-other mark fall rise =
-    by-test Not3 (not (isIdle mark fall)) (λ _. refl) (λ _. by-test Not3 (isGoodLow fall rise) (λ _. refl) (λ _. refl))
-
-later-other : (p : Phase) (side : Side) (v : ℕ) → Not3 (laterByte p side v)
-unfolding laterByte
-later-other p side v =
-    by-test Not3 (not (eqb (laterReason (p .message) side v) noReason)) (λ _. refl)
-    (λ _. by-test Not3 (isSum (p .message .part)) (λ _. refl) (λ _. refl))
-
-stop-other : (p : Phase) → Not3 (afterStop p)
-unfolding afterStop
-stop-other p = by-test Not3 (isQuiet (p .state) && isStopped (p .request)) (λ _. refl) (λ _. refl)
-
--- a byte makes it only in an initialization
-three-by : (st : State) (p : Phase) (side : Side) (v : ℕ) (mark start : Micros) → byteIn st p side v mark start .number ≡ connectedReport
-    → isStarting st ≡ true
-unfolding isStarting
-three-by Down p side v mark start n = absurd (omega arith)
-three-by Starting p side v mark start n = refl
-three-by Quiet p side v mark start n = absurd (omega arith)
-three-by Held p side v mark start n = absurd (false≢true (sym (later-other p side v) ∙ eq-eqb _ connectedReport n))
-three-by Damage p side v mark start n = absurd (omega arith)
-
-byte-three : (p : Phase) (side : Side) (v : ℕ) (mark start : Micros) → afterByte p side v mark start .number ≡ connectedReport → In p
-unfolding afterByte
-byte-three p side v mark start n = three-by (p .state) p side v mark start n
-
--- ---- and so no other report of an event is a 3
-abbrev No3 : List Report → Type 0
-No3 rs = isAmong connectedReport rs ≡ false
-
-none-of : (xs ys : List Report) → No3 xs → No3 ys → No3 (xs ++ ys)
-unfolding isAmong
-none-of [] ys h k = k
-none-of (x ∷ xs) ys h k =
-    let t = or-off (eqb (x .number) connectedReport) (isAmong connectedReport xs) h in
-    rw (t .0) (none-of xs ys (t .1) k)
-  where
-    or-off : (a b : Bool) → (a || b) ≡ false → (a ≡ false) × (b ≡ false)
-    or-off true b e = absurd (false≢true (sym e))
-    or-off false b e = (refl, e)
-
--- what says it says it in its second part, or in its first, where the other does not
-in-second : (xs ys : List Report) → No3 xs → Says connectedReport (xs ++ ys) → Says connectedReport ys
-in-second xs ys h s = by (isAmong connectedReport ys) refl where
-  by : (b : Bool) → isAmong connectedReport ys ≡ b → Says connectedReport ys
-  by true e = e
-  by false e = absurd (false≢true (sym (none-of xs ys h e) ∙ s))
-
-in-first : (xs ys : List Report) → No3 ys → Says connectedReport (xs ++ ys) → Says connectedReport xs
-in-first xs ys h s = by (isAmong connectedReport xs) refl where
-  by : (b : Bool) → isAmong connectedReport xs ≡ b → Says connectedReport xs
-  by true e = e
-  by false e = absurd (false≢true (sym (none-of xs ys e h) ∙ s))
-
-tells-other : (r : Run) (m : Move) → Not3 m → No3 (tells r m)
-unfolding tells isAmong reportOf
-tells-other r m n = by-test (λ (l : List Report). No3 l) (eqb (m .number) 0) (λ _. refl) (λ _. rw n refl)
-
-tells-three : (r : Run) (m : Move) → Says connectedReport (tells r m) → m .number ≡ connectedReport
-tells-three r m s = by (eqb (m .number) connectedReport) refl where
-  by : (b : Bool) → eqb (m .number) connectedReport ≡ b → m .number ≡ connectedReport
-  by true e = eqb-true (m .number) connectedReport e
-  by false e = absurd (false≢true (sym (tells-other r m e) ∙ s))
-
-passed-other : (r : Run) (mark start : Micros) → No3 (passedTells r mark start)
-unfolding passedTells
-passed-other r mark start =
-    let gap = gapOf mark start in
-    none-of _ _ (none-of _ _ (none-of _ _ (tells-other r _ (silence-other (r .phase) gap)) (tells-other _ _ (p2-other _ gap))) (tells-other _ _ (p3-other _ gap)))
-    (tells-other _ _ (window-other _ mark start))
-
-shut-other : (r : Run) (reason : ℕ) → No3 (shutTells r reason)
-unfolding shutTells
-shut-other r reason = none-of _ _ (tells-other r _ (closing-other (r .phase))) (tells-other _ _ (leaving-other _ reason))
-
-byte-says : (r : Run) (e : Event) (mark : Micros) → Says connectedReport (byteTells r e mark)
-    → afterByte (r .phase) (e .side) (e .value) mark (e .start) .number ≡ connectedReport
-unfolding byteTells
-byte-says r e mark s = tells-three (hearing r) _ (in-first _ _ (tells-other _ _ (stop-other _)) s)
-
-start-other : (r : Run) (m : Move) → Not3 m → No3 (shutTells r restarted ++ tells (shut r restarted) m)
-start-other r m n = none-of (shutTells r restarted) (tells (shut r restarted) m) (shut-other r restarted) (tells-other (shut r restarted) m n)
-
-none-said : No3 []
-unfolding isAmong
-none-said = refl
-
-acted-three : (k : Kind) (r : Run) (e : Event) (mark : Micros) → Says connectedReport (actedTells k r e mark)
-    → (k ≡ Byte) × (afterByte (r .phase) (e .side) (e .value) mark (e .start) .number ≡ connectedReport)
-acted-three Address r e mark s = absurd (false≢true (sym (start-other r _ (slow-other (e .value) mark (e .start))) ∙ s))
-acted-three WakeUp r e mark s = absurd (false≢true (sym (start-other r _ (fast-other mark (e .start) (e .end))) ∙ s))
-acted-three Byte r e mark s = (refl, byte-says r e mark s)
-acted-three Tick r e mark s = absurd (false≢true (sym none-said ∙ s))
-acted-three Drop r e mark s = absurd (false≢true (sym (shut-other r dropped) ∙ s))
-acted-three Other r e mark s = absurd (false≢true (sym none-said ∙ s))
-
--- the byte that acts on a run in an initialization, which it makes connected, completes the link's
-pub completes-by : (l : Link) (e : Event) → e .kind ≡ Byte → (p : Phase) → p ≡ passed (begun l e) (l .mark) (e .start) .phase → In p
-    → (judged (p .start) (e .side) (e .value) (sinceOrigin p (l .mark) (e .start)) ≡ noReason) × (isLast (p .start .stage) ≡ true) → Completes l e
-unfolding begun
-completes-by l e k p q i h =
-    let b = begun l e in
-    let w = passed-in b (l .mark) (e .start) (ap (λ (x : Phase). isStarting (x .state)) (sym q) ∙ i) in
-    let same : p ≡ l .phase = q ∙ ap (λ (x : Run). x .phase) (passed-open b (l .mark) (e .start) (w .was) (w .window)) in
-    record {
-      byte = k;
-      was = w .was;
-      window = w .window;
-      right = sym (ap (λ (x : Phase). judged (x .start) (e .side) (e .value) (sinceOrigin x (l .mark) (e .start))) same) ∙ h .0;
-      last = sym (ap (λ (x : Phase). isLast (x .start .stage)) same) ∙ h .1;
-    }
-
--- REPORT 3 IS MADE BY SUCH A BYTE, AND BY NOTHING ELSE
-pub says-completes : (l : Link) (e : Event) → Says connectedReport (listed (handled l e .reports)) → Completes l e
-unfolding handledTells
-says-completes l e s =
-    let r = passed (begun l e) (l .mark) (e .start) in
-    let p = r .phase in
-    let t : Says connectedReport (handledTells l e) = sym (ap (λ (x : List Report). isAmong connectedReport x) (three-enough l e)) ∙ s in
-    let a = acted-three (e .kind) r e (l .mark) (in-second _ _ (passed-other (begun l e) (l .mark) (e .start)) t) in
-    let i = byte-three p (e .side) (e .value) (l .mark) (e .start) (a .1) in
-    completes-by l e (a .0) p refl i
-    (start-three p (e .side) (e .value) _ (sym (ap (λ (x : Move). x .number) (byte-starts p (e .side) (e .value) (l .mark) (e .start) i)) ∙ a .1))
+  -- REPORT 3 IS MADE BY SUCH A BYTE, AND BY NOTHING ELSE
+  pub says-completes : Says connectedReport (listed (handled l e .reports)) → Completes l e
+  says-completes s =
+      let x = says-speaks connectedReport (handledTells l e) (sym (ap (isAmong connectedReport) (three-enough l e)) ∙ s) in
+      subst (λ (n : ℕ). Cause l e n (x .report .reason)) (x .number-is) (cause-each l e (x .report) (x .made))

@@ -11,7 +11,7 @@ use Rattle.demands.specs.Histories.{Among, Tells}
 use Rattle.demands.specs.Accounts.{heldIn}
 use Rattle.demands.specs.Sessions.{Talk, Session, NoReply, IdleOver, gapBefore}
 use Rattle.demands.specs.Endings.{Downs}
-use Rattle.demands.proofs.Finding.{says-speaks, tells-says, among-says}
+use Rattle.demands.proofs.Saying.{says-speaks, tells-says, among-says}
 use Rattle.demands.proofs.Agree.{held-same, session-move, stop-move}
 use Rattle.demands.proofs.SameList.{Has}
 use Rattle.demands.proofs.Sharing.{Both, turned, before, here, there, formed-here, formed-there, like, like-plain}

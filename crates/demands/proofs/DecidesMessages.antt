@@ -27,8 +27,7 @@ use Rattle.demands.specs.Messages.{ReportsFrame}
 use Rattle.demands.specs.Editions.{reasonAtEnd}
 use Rattle.demands.specs.Damage.{reasonIn, GoesBy, Damaged}
 use Rattle.demands.specs.Deciding.{Meets}
-use Rattle.demands.proofs.Finding.{says-speaks, among-says}
-use Rattle.demands.proofs.Saying.{not-among, among-right}
+use Rattle.demands.proofs.Saying.{says-speaks, among-says, not-among, among-right}
 use Rattle.demands.proofs.Listening.{begins-longer}
 use Rattle.demands.proofs.Agree.{Agree, held-same, front, session-move, ends-move}
 use Rattle.demands.proofs.SameList.{Has}

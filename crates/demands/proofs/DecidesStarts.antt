@@ -12,7 +12,7 @@ use Rattle.demands.specs.Accounts.{heldIn}
 use Rattle.demands.specs.Endings.{Starting}
 use Rattle.demands.specs.Failing.{UnderWay, Fails}
 use Rattle.demands.specs.Orders.{NamesFailed}
-use Rattle.demands.proofs.Finding.{says-speaks, among-says}
+use Rattle.demands.proofs.Saying.{says-speaks, among-says}
 use Rattle.demands.proofs.Agree.{held-same, starting-move}
 use Rattle.demands.proofs.SameList.{Has}
 use Rattle.demands.proofs.Fixed.{starting-decided}

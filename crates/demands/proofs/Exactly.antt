@@ -28,7 +28,8 @@ use Rattle.demands.specs.Connecting.{Connects}
 use Rattle.demands.proofs.Numbering.{log-numbered}
 use Rattle.demands.proofs.Invariant.{timely}
 use Rattle.demands.proofs.Basics.{basics, answer-taken, answer-refused}
-use Rattle.demands.proofs.Completing.{Completes, says-completes, completes-says}
+use Rattle.demands.proofs.Entering.{Completes}
+use Rattle.demands.proofs.Completing.{says-completes, completes-says}
 use Rattle.demands.proofs.Running.{startOn, Starts, Done, runs-starts, Behind, Inv, inv-on, inv-fresh, Ends, ends-of, completes-of}
 use Rattle.demands.proofs.Waking.{Waited, runs-idle}
 use Rattle.demands.proofs.Slowly.{slow-done, done-slow}

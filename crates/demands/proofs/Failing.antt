@@ -25,7 +25,7 @@ use Rattle.starts.specs.declared.Stage.the-variants.{Sync, FirstKey, SecondKey,
 use Rattle.starts.specs.declared.Stage.the-variants.{AskFormat, AskTarget, AskSource, AskService, AskSum}
 use Rattle.starts.specs.declared.Stage.the-variants.{Format, Target, Source, LongTarget, LongSource, Length, Service, KeyOne, KeyTwo, Sum}
 use Rattle.starts.specs.declared.Start.{Start}
-use Rattle.phases.specs.Phases.{isStarting, down, starting}
+use Rattle.phases.specs.Phases.{starting}
 use Rattle.phases.specs.declared.Phase.{Phase}
 use Rattle.moves.specs.Moves.{sinceOrigin}
 use Rattle.link.specs.Telling.{handledTells}
@@ -38,19 +38,19 @@ use Rattle.demands.specs.Endings.{Starter, Starting, goes-on}
 use Rattle.demands.specs.Starts.{isAddress, due, dueFrom}
 use Rattle.demands.specs.Failing.{UnderWay, dueNow, from, WindowOver, SideDue, TooEarly, ValueFits, AllRight, endsHere, ByteInTime, Fails}
 use Rattle.demands.proofs.Basics.{basics}
-use Rattle.demands.proofs.Entering.{In}
-use Rattle.demands.proofs.Completing.{says-completes, completes-says}
+use Rattle.demands.proofs.Entering.{In, judges}
+use Rattle.demands.proofs.Completing.{completes-says}
 use Rattle.demands.proofs.Judging.{judged-by, side-is, is-side}
 use Rattle.demands.proofs.Waking.{good-low}
 use Rattle.demands.proofs.Staged.{Means, means}
 use Rattle.demands.proofs.Slowly.{slow-place}
 use Rattle.demands.proofs.Fastly.{fast-place}
 use Rattle.demands.proofs.Exactly.{behind, inv-of, reports-taken}
-use Rattle.demands.proofs.Going.{never-starting}
-use Rattle.demands.proofs.Passing.{Leaves, over, idle, up, same}
-use Rattle.demands.proofs.Causes.{runs-out, closes, low, wrong, of-fail, leftBy, was-starting, still-starting, over-made, long-of, left-at, tells-caused, says-caused, made-at}
+use Rattle.demands.proofs.Passing.{Over}
+use Rattle.demands.proofs.Causes.{isCloser, no-closer, no-byte, false-of, runs-out, closes, falls-short, wrong, over-made, wrong-made}
 use Rattle.demands.proofs.Causes.{Fails as FailsBy}
-use Rattle.demands.proofs.Initializing.{isCloser, no-closer, no-byte, judges, lets-none, wrong-made, starting-exactly, over-told, false-of}
+use Rattle.demands.proofs.Finding.{tells-caused, says-caused, made-at}
+use Rattle.demands.proofs.Initializing.{lets-none, starting-exactly, over-told}
 use Rattle.demands.proofs.Running.{firstBy, fallBy, startOn, phaseOn, lastEnd, Starts, Runs, runs-starts, runs-mark, since-mark}
 use Rattle.demands.specs.Ours.{ours}
 
@@ -165,24 +165,13 @@ verdict-value true true c q = absurd (omega arith)
 verdict-value true false true q = absurd (omega arith)
 verdict-value true false false q = (refl, refl, refl)
 
--- ---- the phase that time leaves in an initialization is the one that it found
-down-out : isStarting (down .state) ≡ false
-unfolding down isStarting
-down-out = refl
-
-left-same : (p : Phase) (mark start : Micros) (q : Phase) → Leaves p mark start q → isStarting (q .state) ≡ true → q ≡ p
-left-same p mark start q (over o) s = absurd (false≢true (sym down-out ∙ s))
-left-same p mark start q (idle i) s = absurd (false≢true (sym down-out ∙ s))
-left-same p mark start q (up n b x d) s = absurd (never-starting (q .state) d s)
-left-same p mark start q (same b n) s = refl
-
 -- the cause of a report 4 whose reason is above that of a wrong low
-wrong-by : (p q : Phase) (mark : Micros) (e : Event) {k : ℕ} → FailsBy p q mark e k → wrongLow < k
-    → (isStarting (q .state) ≡ true) × (e .kind ≡ Byte) × (judged (q .start) (e .side) (e .value) (sinceOrigin q mark (e .start)) ≡ k)
-wrong-by p q mark e (runs-out o) h = absurd (omega arith)
-wrong-by p q mark e (closes s c) h = absurd (omega arith)
-wrong-by p q mark e (low w i l) h = absurd (omega arith)
-wrong-by p q mark e (wrong s b m) h = (s, b, refl)
+wrong-by : (l : Link) (e : Event) {k : ℕ} → FailsBy l e k → wrongLow < k
+    → (Over (l .phase) (l .mark) (e .start) → ⊥) × (e .kind ≡ Byte) × (judges l e (l .phase) ≡ k)
+wrong-by l e (runs-out o) h = absurd (omega arith)
+wrong-by l e (closes i o c) h = absurd (omega arith)
+wrong-by l e (falls-short w i g) h = absurd (omega arith)
+wrong-by l e (wrong i o b m) h = (o, b, refl)
 
 -- ---- where the link is: at what the start and the bytes have come to
 pub under-way : (es : Log) → Starting ours es → UnderWay (takenOf es)
@@ -265,34 +254,24 @@ module _ (es : Log) (s : Starting ours es) (u : UnderWay (takenOf es)) where
     value-at = due-now .value (e .value)
 
     -- ---- a byte that finds the window open is judged by what is due
-    left-at-is : Not (WindowOver u e) → In (leftBy l e .phase) × (leftBy l e .phase ≡ l .phase)
-    left-at-is n =
-        let i = still-starting (l .phase) (l .mark) (e .start) _ (left-at es e) inside (λ o. n (over-at .0 (o .1))) in
-        (i, left-same (l .phase) (l .mark) (e .start) _ (left-at es e) i)
-
-    judges-left : leftBy l e .phase ≡ l .phase → judges l e (leftBy l e .phase) ≡ judged soFar (e .side) (e .value) gap
-    judges-left q = ap (judges l e) q ∙ judged-at
-
     wrong-told : (k : ℕ) → wrongLow < k → Tells failedReport k (reportsTo ours es e) → ByteInTime es u e × (judged soFar (e .side) (e .value) gap ≡ k)
     wrong-told k h t =
         let x = tells-caused es e failedReport k t in
-        let w = wrong-by _ _ _ e (of-fail _ _ _ e (x .cause) refl) h in
-        let n = was-starting (l .phase) (l .mark) (e .start) _ (left-at es e) (w .0) .1 in
-        let q = left-same (l .phase) (l .mark) (e .start) _ (left-at es e) (w .0) in
-        ((x .number-is, w .1, λ o. n (inside, over-at .1 o)), sym (judges-left q) ∙ w .2)
+        let w = wrong-by l e (x .cause) h in
+        ((x .number-is, w .1, λ o. w .0 (inside, over-at .1 o)), sym judged-at ∙ w .2)
 
     told-wrong : (k : ℕ) → wrongLow < k → ByteInTime es u e → judged soFar (e .side) (e .value) gap ≡ k → Tells failedReport k (reportsTo ours es e)
     told-wrong k h x j =
-        let i = left-at-is (x .2) in
-        let q = judges-left (i .1) ∙ j in
-        let z : eqb (judges l e (leftBy l e .phase)) noReason ≡ false = ne-eqb (judges l e (leftBy l e .phase)) noReason (λ r. omega (arith, q, r, h)) in
-        made-at es e failedReport k (x .0) (subst (λ (m : ℕ). Tells failedReport m (handledTells l e)) q (wrong-made l e (long-of es) (x .1) (i .0) z))
+        let q = judged-at ∙ j in
+        let z : eqb (judges l e (l .phase)) noReason ≡ false = ne-eqb (judges l e (l .phase)) noReason (λ r. omega (arith, q, r, h)) in
+        made-at es e failedReport k (x .0)
+        (subst (λ (m : ℕ). Tells failedReport m (handledTells l e)) q (wrong-made l e (x .1) inside (λ o. x .2 (over-at .0 (o .1))) z))
 
     -- ---- the reasons, one by one
     fails-over : Tells failedReport windowOver (reportsTo ours es e) ↔ ((numberAfter (takenOf es) e ≡ taken) × WindowOver u e)
     fails-over = (
       λ t. (tells-caused es e failedReport windowOver t .number-is, over-at .0 (over-told es e t .1)),
-      λ x. made-at es e failedReport windowOver (x .0) (over-made l e (long-of es) (inside, over-at .1 (x .1))),
+      λ x. made-at es e failedReport windowOver (x .0) (over-made l e (inside, over-at .1 (x .1))),
     )
 
     fails-side : Tells failedReport wrongSide (reportsTo ours es e) ↔ (ByteInTime es u e × Not (SideDue u e))
@@ -348,8 +327,9 @@ module _ (es : Log) (s : Starting ours es) (u : UnderWay (takenOf es)) where
     succeeds : Says connectedReport (reportsTo ours es e) ↔ (ByteInTime es u e × AllRight u e × (endsHere u ≡ true))
     succeeds = (
       λ t.
-          let n = says-caused es e connectedReport t .caused .number-is in
-          let c = says-completes l e (sym (ap (isAmong connectedReport) (reports-taken es e n)) ∙ t) in
+          let x = says-caused es e connectedReport t .caused in
+          let n = x .number-is in
+          let c = x .cause in
           ((n, c .byte, λ o. false≢true (sym (c .window) ∙ over-at .1 o)), right-of n (sym judged-at ∙ c .right), sym last-at ∙ c .last),
       λ x.
           ap (isAmong connectedReport) (reports-taken es e (x .0 .0))
@@ -366,9 +346,7 @@ module _ (es : Log) (s : Starting ours es) (u : UnderWay (takenOf es)) where
     no-failure : Not (WindowOver u e) → (isCloser (e .kind) ≡ false) → (e .kind ≡ Byte → judged soFar (e .side) (e .value) gap ≡ noReason)
         → Says failedReport (reportsTo ours es e) → ⊥
     no-failure n c j t =
-        let i = left-at-is n in
-        lets-none l e (i .0) (no-closer e (e .kind) c refl) (λ b. judges-left (i .1) ∙ j b) (λ o. n (over-at .0 (o .1)))
-        (of-fail _ _ _ e (says-caused es e failedReport t .caused .cause) refl)
+        lets-none l e (no-closer e (e .kind) c refl) (λ b. judged-at ∙ j b) (λ o. n (over-at .0 (o .1))) (says-caused es e failedReport t .caused .cause)
 
     goes-by : ByteInTime es u e → AllRight u e → endsHere u ≡ false → Starting ours (es ▷ e)
     goes-by x r z =
@@ -392,12 +370,11 @@ fails-exactly es e s u = record {
 }
 
 -- ---- outside of an initialization
-low-only : (es : Log) (e : Event) {k : ℕ} → Not (Starting ours es)
-    → FailsBy (after ours es .link .phase) (leftBy (after ours es .link) e .phase) (after ours es .link .mark) e k → k ≡ wrongLow
+low-only : (es : Log) (e : Event) {k : ℕ} → Not (Starting ours es) → FailsBy (after ours es .link) e k → k ≡ wrongLow
 low-only es e n (runs-out o) = absurd (n (starting-exactly es .0 (o .0)))
-low-only es e n (closes s c) = absurd (n (starting-exactly es .0 (was-starting _ _ (e .start) _ (left-at es e) s .0)))
-low-only es e n (low w i l) = refl
-low-only es e n (wrong s b m) = absurd (n (starting-exactly es .0 (was-starting _ _ (e .start) _ (left-at es e) s .0)))
+low-only es e n (closes i o c) = absurd (n (starting-exactly es .0 i))
+low-only es e n (falls-short w i g) = refl
+low-only es e n (wrong i o b m) = absurd (n (starting-exactly es .0 i))
 
 pub never-else : (es : Log) (e : Event) (k : ℕ) → Not (Starting ours es) → Tells failedReport k (reportsTo ours es e) → k ≡ wrongLow
-never-else es e k n t = low-only es e n (of-fail _ _ _ e (tells-caused es e failedReport k t .cause) refl)
+never-else es e k n t = low-only es e n (tells-caused es e failedReport k t .cause)

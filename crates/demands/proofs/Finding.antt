@@ -1,100 +1,29 @@
--- Reports of a number, or of a number and a reason, among reports: in a list that is made of two, of a move, and of an event. Assumes nothing.
+-- The reports of an event, after any events: one that is refused makes none, and each report of one that is taken has its cause, which makes it (Causes).
+-- Assumes nothing.
 use Prim.Native.Nat.{ℕ}
-use mathlib.Core.Bool.{Bool, true, false, _||_, false≢true}
-use mathlib.Core.List.{List, [], _∷_, _++_}
+use mathlib.Core.Bool.{Bool, true, false}
+use mathlib.Core.List.{[]}
 use mathlib.Core.Path.{_≡_, refl, sym, ap, _∙_, subst}
-use mathlib.Core.Logic.{⊎-elim}
-use borrow.Author.Tests.{eqb-true, eqb-false, eq-eqb}
+use borrow.Author.Tests.{eqb-true, eqb-false}
 use lib.Dec.{eqb}
 use Rattle.base.specs.Numbers.{taken}
-use Rattle.base.proofs.Tests.{or-split, by-test}
 use Rattle.events.specs.declared.Event.{Event}
-use Rattle.phases.specs.declared.Phase.{Phase}
-use Rattle.moves.specs.Moves.{makes}
-use Rattle.moves.specs.declared.Move.{Move}
-use Rattle.reports.specs.Reporting.{reportOf, listed}
+use Rattle.reports.specs.Reporting.{listed}
 use Rattle.reports.specs.declared.Report.{Report}
-use Rattle.reports.specs.declared.Run.{Run}
 use Rattle.link.specs.Stepping.{refusedBy}
+use Rattle.link.specs.declared.Link.{Link}
 use Rattle.link.specs.declared.Answer.{Answer}
-use Rattle.link.specs.Telling.{tells, handledTells}
+use Rattle.link.specs.Telling.{handledTells}
+use Rattle.link.proofs.Long.{Long, fresh-long, step-long}
 use Rattle.link.proofs.Three.{three-enough}
-use Rattle.demands.specs.Logs.{Log, numberAfter, takenOf}
-use Rattle.demands.specs.Histories.{after, reportsTo, isAmong, Says, Among, first, later, Tells}
+use Rattle.demands.specs.Logs.{Log, none, _▷_, numberAfter, takenOf}
+use Rattle.demands.specs.Histories.{after, reportsTo, Says, Among, Tells}
 use Rattle.demands.proofs.Basics.{answer-refused}
 use Rattle.demands.proofs.Exactly.{reports-taken}
-use Rattle.demands.proofs.Saying.{Each, each-none, each-one, among-left, among-right, not-among}
+use Rattle.demands.proofs.Saying.{not-among, says-speaks, tells-says}
+use Rattle.demands.proofs.Causes.{Cause, cause-each}
 use Rattle.demands.specs.Ours.{ours}
 
--- ---- a report of this number
-pub record Speaks (number : ℕ) (rs : List Report) : Type 0 where
-  pub report : Report
-  pub made : Among report rs
-  pub number-is : report .number ≡ number
-
-or-second : (a b : Bool) → b ≡ true → (a || b) ≡ true
-or-second true b h = refl
-or-second false b h = h
-
-pub among-says : {r : Report} {rs : List Report} (number : ℕ) → Among r rs → r .number ≡ number → Says number rs
-unfolding isAmong
-among-says {r = r} number first q = rw (eq-eqb (r .number) number q) refl
-among-says {r = r} number (later {rs = rs} {s = s} a) q = or-second (eqb (s .number) number) (isAmong number rs) (among-says number a q)
-
-pub says-speaks : (number : ℕ) (rs : List Report) → Says number rs → Speaks number rs
-unfolding isAmong
-says-speaks number [] s = absurd (false≢true s)
-says-speaks number (r ∷ rs) s =
-    ⊎-elim (λ q. record { report = r; made = first; number-is = eqb-true (r .number) number q })
-    (λ q. let x = says-speaks number rs q in record { report = x .report; made = later (x .made); number-is = x .number-is })
-    (or-split (eqb (r .number) number) (isAmong number rs) s)
-
--- ---- a report of this number and reason
-pub tells-says : (number reason : ℕ) (rs : List Report) → Tells number reason rs → Says number rs
-tells-says number reason rs t = among-says number (t .made) (t .number-is)
-
-pub tells-left : (number reason : ℕ) (rs ss : List Report) → Tells number reason rs → Tells number reason (rs ++ ss)
-tells-left number reason rs ss t = record {
-  report = t .report;
-  made = among-left ss (t .made);
-  number-is = t .number-is;
-  reason-is = t .reason-is;
-}
-
-pub tells-right : (number reason : ℕ) (rs ss : List Report) → Tells number reason ss → Tells number reason (rs ++ ss)
-tells-right number reason rs ss t = record {
-  report = t .report;
-  made = among-right rs (t .made);
-  number-is = t .number-is;
-  reason-is = t .reason-is;
-}
-
--- ---- of a move
-makes-tells : (r : Run) (number reason : ℕ) (p : Phase) → eqb number 0 ≡ false → Tells number reason (tells r (makes number reason p))
-unfolding tells reportOf
-makes-tells r number reason p z = rw z (record { report = reportOf r number reason; made = first; number-is = refl; reason-is = refl })
-
-pub move-tells : (r : Run) (m : Move) (number reason : ℕ) (p : Phase) → eqb number 0 ≡ false → m ≡ makes number reason p → Tells number reason (tells r m)
-move-tells r m number reason p z q = subst (λ (x : Move). Tells number reason (tells r x)) (sym q) (makes-tells r number reason p z)
-
--- what holds of a move's report, if it makes one, holds of each that it tells
-pub tells-each : (P : Report → Type 0) (r : Run) (m : Move) → (eqb (m .number) 0 ≡ false → P (reportOf r (m .number) (m .reason))) → Each P (tells r m)
-unfolding tells
-tells-each P r m h =
-    by-test (Each P) (eqb (m .number) 0) {x = []} {y = reportOf r (m .number) (m .reason) ∷ []} (λ _. each-none P) (λ z. each-one P _ (h z))
-
--- by its number and reason
-abbrev pub EachOf : (ℕ → ℕ → Type 0) → List Report → Type 0
-EachOf C rs = Each (λ (x : Report). C (x .number) (x .reason)) rs
-
-abbrev pub Makes : (ℕ → ℕ → Type 0) → Move → Type 0
-Makes C m = eqb (m .number) 0 ≡ false → C (m .number) (m .reason)
-
-pub move-each : (C : ℕ → ℕ → Type 0) (r : Run) (m : Move) → Makes C m → EachOf C (tells r m)
-unfolding reportOf
-move-each C r m h = tells-each (λ (x : Report). C (x .number) (x .reason)) r m h
-
--- ---- of an event: one that is refused makes none
 pub reports-made : (es : Log) (e : Event) → numberAfter (takenOf es) e ≡ taken → reportsTo ours es e ≡ handledTells (after ours es .link) e
 reports-made es e q = reports-taken es e q ∙ three-enough (after ours es .link) e
 
@@ -108,3 +37,49 @@ taken-by-report es e x i = by-number (eqb (numberAfter (takenOf es) e) taken) re
     by-number : (b : Bool) → eqb (numberAfter (takenOf es) e) taken ≡ b → numberAfter (takenOf es) e ≡ taken
     by-number true n = eqb-true (numberAfter (takenOf es) e) taken n
     by-number false n = absurd (not-among (subst (Among x) (none-refused es e (eqb-false (numberAfter (takenOf es) e) taken n)) i))
+
+-- ---- and their causes
+pub long-of : (es : Log) → Long (after ours es .link .phase)
+unfolding after
+long-of none = fresh-long
+long-of (es ▷ e) = step-long (after ours es .link) (after ours es .counts) e (long-of es)
+
+module _ (es : Log) (e : Event) where
+  abbrev here : Link
+  here = after ours es .link
+
+  abbrev pub CauseAt : ℕ → ℕ → Type 0
+  CauseAt = Cause here e
+
+  pub cause-at : (x : Report) → Among x (reportsTo ours es e) → CauseAt (x .number) (x .reason)
+  cause-at x i = cause-each here e x (subst (Among x) (reports-made es e (taken-by-report es e x i)) i)
+
+  pub made-at : (number reason : ℕ) → numberAfter (takenOf es) e ≡ taken → Tells number reason (handledTells here e) → Tells number reason (reportsTo ours es e)
+  made-at number reason n t = subst (Tells number reason) (sym (reports-made es e n)) t
+
+  -- a report of this number and reason: the event is taken, and there is a cause
+  pub record Caused (number reason : ℕ) : Type 0 where
+    pub number-is : numberAfter (takenOf es) e ≡ taken
+    pub cause : CauseAt number reason
+
+  pub tells-caused : (number reason : ℕ) → Tells number reason (reportsTo ours es e) → Caused number reason
+  tells-caused number reason t = record {
+    number-is = taken-by-report es e (t .report) (t .made);
+    cause = subst (λ (k : ℕ). CauseAt number k) (t .reason-is) (subst (λ (n : ℕ). CauseAt n (t .report .reason)) (t .number-is) (cause-at (t .report) (t .made)));
+  }
+
+  -- a report of this number
+  pub record Spoken (number : ℕ) : Type 0 where
+    pub reason : ℕ
+    pub caused : Caused number reason
+
+  pub says-caused : (number : ℕ) → Says number (reportsTo ours es e) → Spoken number
+  says-caused number s =
+      let x = says-speaks number (reportsTo ours es e) s in
+      record {
+        reason = x .report .reason;
+        caused = tells-caused number (x .report .reason) (record { report = x .report; made = x .made; number-is = x .number-is; reason-is = refl });
+      }
+
+  pub says-made : (number reason : ℕ) → numberAfter (takenOf es) e ≡ taken → Tells number reason (handledTells here e) → Says number (reportsTo ours es e)
+  says-made number reason n t = tells-says number reason (reportsTo ours es e) (made-at number reason n t)

@@ -29,9 +29,8 @@ use Rattle.demands.specs.Endings.{Starter, NotIdle, WrongLow, Starting, 
 use Rattle.demands.specs.Deciding.{Meets}
 use Rattle.demands.proofs.Exactly.{log-taken, log-refused}
 use Rattle.demands.proofs.Names.{since-heard}
-use Rattle.demands.proofs.Saying.{only-one}
+use Rattle.demands.proofs.Saying.{only-one, tells-says}
 use Rattle.demands.proofs.KeyBytes.{starter, not-byte, OpenedBy, report-opens}
-use Rattle.demands.proofs.Finding.{tells-says}
 
 -- ---- AN INITIALIZATION GOES ON, OR NOT: by events and reports
 abbrev pub Decided : Type 0 → Type 0

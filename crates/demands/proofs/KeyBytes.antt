@@ -29,8 +29,7 @@ use Rattle.demands.specs.Ours.{ours}
 use Rattle.demands.proofs.Exactly.{connects-exactly}
 use Rattle.demands.proofs.Names.{connects-names}
 use Rattle.demands.proofs.Listening.{byte-more}
-use Rattle.demands.proofs.Saying.{only-one}
-use Rattle.demands.proofs.Finding.{among-says}
+use Rattle.demands.proofs.Saying.{only-one, among-says}
 
 -- ---- THE BYTES OF AN INITIALIZATION: the values of a log of bytes
 unfoldable valuesIn : Log → List ℕ

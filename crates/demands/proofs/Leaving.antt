@@ -19,11 +19,10 @@ use Rattle.talk.specs.Talk.{isFirst}
 use Rattle.talk.specs.declared.Reply.{Reply}
 use Rattle.talk.specs.declared.Reply.the-variants.{Never, First, Further}
 use Rattle.phases.specs.Phases.{isQuiet, isConnected}
-use Rattle.phases.specs.declared.Phase.{Phase}
 use Rattle.moves.specs.Moves.{isIdle, isGoodLow}
 use Rattle.link.specs.declared.Link.{Link}
 use Rattle.listing.specs.Listing.{heldOf}
-use Rattle.phases.proofs.StateTests.{quiet-connected}
+use Rattle.phases.proofs.StateTests.{quiet-connected, open-or, quiet-shut}
 use Rattle.demands.specs.Logs.{Log, markOf, numberAfter, takenOf, InBytes}
 use Rattle.demands.specs.Idle.{idleUntil}
 use Rattle.demands.specs.Refusals.{Not}
@@ -37,11 +36,9 @@ use Rattle.demands.proofs.Holding.{holds-some, holds-none}
 use Rattle.demands.proofs.Invariant.{kept-of}
 use Rattle.demands.proofs.Basics.{basics, held-is}
 use Rattle.demands.proofs.Session.{session-link, session-exactly}
-use Rattle.demands.proofs.Passing.{Waited, Idled, Leaves, open-or}
-use Rattle.demands.proofs.Acting.{quiet-shut}
-use Rattle.demands.proofs.Causes.{DownFor as DownBy, stops, idles, drops, restarts, leftBy}
-use Rattle.demands.proofs.Causes.{of-fail, of-wait, of-down, of-not-idle, of-low, of-idle, of-dropped, of-restarted, was-connected, still-connected}
-use Rattle.demands.proofs.Causes.{waits-made, idles-made, dropped-made, restarted-made, not-idle-made, low-made, long-of, left-at, tells-caused, says-caused, made-at, says-made}
+use Rattle.demands.proofs.Passing.{Waited, Idled, Lasts}
+use Rattle.demands.proofs.Causes.{of-low, waits-made, idles-made, dropped-made, restarted-made, not-idle-made, low-made}
+use Rattle.demands.proofs.Finding.{long-of, tells-caused, says-caused, made-at, says-made}
 use Rattle.demands.specs.Ours.{ours}
 use Rattle.demands.specs.Beside.{IsIn}
 
@@ -72,9 +69,8 @@ pub not-idle-exactly : (es : Log) (e : Event)
 not-idle-exactly es e = (
   λ s.
       let x = says-caused es e notIdleReport s .caused in
-      let c = of-not-idle _ _ _ e (x .cause) refl in
-      (x .number-is, (c .0, mark-not-idle es e .0 (c .1))),
-  λ c. says-made es e notIdleReport noReason (c .0) (not-idle-made (after ours es .link) e (long-of es) (c .1 .0) (mark-not-idle es e .1 (c .1 .1))),
+      (x .number-is, (x .cause .0, mark-not-idle es e .0 (x .cause .1))),
+  λ c. says-made es e notIdleReport noReason (c .0) (not-idle-made (after ours es .link) e (c .1 .0) (mark-not-idle es e .1 (c .1 .1))),
 )
 
 -- A WRONG LOW
@@ -83,11 +79,11 @@ pub wrong-low-exactly : (es : Log) (e : Event)
 wrong-low-exactly es e = (
   λ s.
       let x = tells-caused es e failedReport wrongLow s in
-      let c = of-low _ _ _ e (of-fail _ _ _ e (x .cause) refl) refl in
+      let c = of-low _ e (x .cause) refl in
       (x .number-is, (c .0, mark-idle es e .0 (c .1), wrong-low e .0 (c .2))),
   λ c.
       made-at es e failedReport wrongLow (c .0)
-      (low-made (after ours es .link) e (long-of es) (c .1 .0) (mark-idle es e .1 (c .1 .1)) (wrong-low e .1 (c .1 .2))),
+      (low-made (after ours es .link) e (c .1 .0) (mark-idle es e .1 (c .1 .1)) (wrong-low e .1 (c .1 .2))),
 )
 
 -- ---- in a session: the reply, the windows and the bytes held are the link's
@@ -163,8 +159,8 @@ pub no-reply-exactly : (es : Log) (e : Event) (t : Talk) → InBytes es → Sess
 no-reply-exactly es e t b s = (
   λ x.
       let c = says-caused es e noReplyReport x .caused in
-      (c .number-is, waited-is es e t b s .0 (of-wait _ _ _ e (c .cause) refl)),
-  λ x. says-made es e noReplyReport noReason (x .0) (waits-made (after ours es .link) e (long-of es) (waited-is es e t b s .1 (x .1))),
+      (c .number-is, waited-is es e t b s .0 (c .cause)),
+  λ x. says-made es e noReplyReport noReason (x .0) (waits-made (after ours es .link) e (waited-is es e t b s .1 (x .1))),
 )
 
 -- DOWN: by P3 max, by a drop, by an address or wake-up
@@ -172,51 +168,36 @@ module _ (es : Log) (e : Event) (t : Talk) (b : InBytes es) (s : Session ours es
   abbrev here : Link
   here = after ours es .link
 
-  -- what time leaves connected: P3 max has not passed
-  stays-up : isConnected (leftBy here e .phase .state) ≡ true → Not (IdleOver t (heldIn ours es) (gapBefore (takenOf es) e))
-  stays-up c i = was-connected (here .phase) (here .mark) (e .start) _ (left-at es e) c .1 (idled-is es e t b s .1 i)
+  -- P3 max has not passed, by the link and by the history
+  stays-up : Lasts (here .mark) e (here .phase) → Not (IdleOver t (heldIn ours es) (gapBefore (takenOf es) e))
+  stays-up n i = n (long-of es) (idled-is es e t b s .1 i)
 
-  up-stays : Not (IdleOver t (heldIn ours es) (gapBefore (takenOf es) e)) → isConnected (leftBy here e .phase .state) ≡ true
-  up-stays n =
-      still-connected (here .phase) (here .mark) (e .start) _ (left-at es e) (session-link es t b s .connected) (λ i. n (idled-is es e t b s .0 i))
-
-  downs-by : Downs ours es e t
-  downs-by = record {
-    idle = (
-      λ x.
-          let c = tells-caused es e downReport idleOver x in
-          (c .number-is, idled-is es e t b s .0 (of-idle _ _ _ e (of-down _ _ _ e (c .cause) refl) refl)),
-      λ x. made-at es e downReport idleOver (x .0) (idles-made here e (long-of es) (idled-is es e t b s .1 (x .1))),
-    );
-    dropped = (
-      λ x.
-          let c = tells-caused es e downReport dropped x in
-          let d = of-dropped _ _ _ e (of-down _ _ _ e (c .cause) refl) refl in
-          (c .number-is, d .1, stays-up (d .0)),
-      λ x. made-at es e downReport dropped (x .0) (dropped-made here e (long-of es) (up-stays (x .2)) (x .1)),
-    );
-    restarted = (
-      λ x.
-          let c = tells-caused es e downReport restarted x in
-          let d = of-restarted _ _ _ e (of-down _ _ _ e (c .cause) refl) refl in
-          (c .number-is, d .1, stays-up (d .0)),
-      λ x. made-at es e downReport restarted (x .0) (restarted-made here e (long-of es) (up-stays (x .2)) (x .1)),
-    );
-  }
+  up-stays : Not (IdleOver t (heldIn ours es) (gapBefore (takenOf es) e)) → Idled (here .phase) (gapOf (here .mark) (e .start)) → ⊥
+  up-stays n i = n (idled-is es e t b s .0 i)
 
 pub downs-exactly : (es : Log) (e : Event) (t : Talk) → InBytes es → Session ours es t → Downs ours es e t
-downs-exactly es e t b s = downs-by es e t b s
+downs-exactly es e t b s =
+    let l = after ours es .link in
+    let up = session-link es t b s .connected in
+    record {
+      idle = (
+        λ x. let c = tells-caused es e downReport idleOver x in (c .number-is, idled-is es e t b s .0 (c .cause .1)),
+        λ x. made-at es e downReport idleOver (x .0) (idles-made l e (long-of es) (idled-is es e t b s .1 (x .1))),
+      );
+      dropped = (
+        λ x. let c = tells-caused es e downReport dropped x in (c .number-is, c .cause .1 .1, stays-up es e t b s (c .cause .1 .0)),
+        λ x. made-at es e downReport dropped (x .0) (dropped-made l e up (up-stays es e t b s (x .2)) (x .1)),
+      );
+      restarted = (
+        λ x. let c = tells-caused es e downReport restarted x in (c .number-is, c .cause .1 .1, stays-up es e t b s (c .cause .1 .0)),
+        λ x. made-at es e downReport restarted (x .0) (restarted-made l e up (up-stays es e t b s (x .2)) (x .1)),
+      );
+    }
 
 -- BOTH IN A SESSION ONLY
-down-connected : (p q : Phase) (mark : Micros) (e : Event) {k : ℕ} → Leaves p mark (e .start) q → DownBy p q mark e k → isConnected (p .state) ≡ true
-down-connected p q mark e v (stops c) = was-connected p mark (e .start) q v c .0
-down-connected p q mark e v (idles i) = i .0
-down-connected p q mark e v (drops c d) = was-connected p mark (e .start) q v c .0
-down-connected p q mark e v (restarts c d) = was-connected p mark (e .start) q v c .0
-
 pub only-in-session : (es : Log) (e : Event) → InBytes es
     → Says noReplyReport (reportsTo ours es e) ⊎ Says downReport (reportsTo ours es e) → SomeSession ours es
 only-in-session es e b x =
     session-exactly es b .0
-    (⊎-elim (λ w. quiet-connected (after ours es .link .phase .state) (of-wait _ _ _ e (says-caused es e noReplyReport w .caused .cause) refl .0))
-    (λ d. down-connected _ _ _ e (left-at es e) (of-down _ _ _ e (says-caused es e downReport d .caused .cause) refl)) x)
+    (⊎-elim (λ w. quiet-connected (after ours es .link .phase .state) (says-caused es e noReplyReport w .caused .cause .0))
+    (λ d. says-caused es e downReport d .caused .cause .0) x)

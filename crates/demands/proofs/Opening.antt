@@ -13,6 +13,7 @@ use lib.ListN.{length}
 use Rattle.base.specs.Choice.{if_then_else_}
 use Rattle.base.specs.Numbers.{taken}
 use Rattle.base.specs.Reports.{frameReport, damageReport, downReport, stopped, idleOver, early, stray}
+use Rattle.base.proofs.Tests.{and-split}
 use Rattle.units.specs.Units.{gapOf}
 use Rattle.units.specs.declared.Micros.{Micros}
 use Rattle.timing.specs.Timing.{isPassed}
@@ -26,6 +27,7 @@ use Rattle.talk.specs.declared.Reply.{Reply}
 use Rattle.talk.specs.declared.Reply.the-variants.{Never}
 use Rattle.phases.specs.Phases.{isQuiet, isOpen, down, talking, settled}
 use Rattle.phases.specs.declared.Phase.{Phase}
+use Rattle.phases.proofs.StateTests.{open-or, quiet-shut}
 use Rattle.moves.specs.Moves.{isSilent}
 use Rattle.reports.specs.declared.Report.{Report}
 use Rattle.reports.specs.declared.Run.{Run}
@@ -56,11 +58,14 @@ use Rattle.demands.proofs.Going.{withReply, Passes, up, gone, passed-st
 use Rattle.demands.proofs.Course.{AtLink, session-at}
 use Rattle.demands.proofs.Reporting.{turns-behind, stops-behind}
 use Rattle.demands.proofs.Speaking.{frames-behind}
-use Rattle.demands.proofs.Finding.{reports-made, tells-says}
-use Rattle.demands.proofs.Passing.{Idled, open-or}
-use Rattle.demands.proofs.Acting.{quiet-shut}
+use Rattle.demands.proofs.Finding.{reports-made}
+use Rattle.demands.proofs.Saying.{tells-says}
+use Rattle.demands.proofs.Passing.{Idled, ended-left}
+use Rattle.demands.proofs.Passing.{quiet-left as quiet-after}
+use Rattle.demands.proofs.Causes.{false-of}
+use Rattle.demands.proofs.Causes.{left as left-by}
 use Rattle.demands.proofs.Leaving.{quiet-holds, holds-quiet, replied, same-gap, same-p2, idled-is, downs-exactly}
-use Rattle.demands.proofs.Elapsing.{StaysOut, run-open, run-quiet, first-silent, first-named, byte-named}
+use Rattle.demands.proofs.Elapsing.{first-silent, first-named, byte-named}
 use Rattle.demands.specs.Ours.{ours}
 
 -- the reply that may come when the byte b comes behind these events
@@ -122,13 +127,16 @@ module _ (before : Log) (b : Event) (t : Talk) (i : InBytes before) (o : OpensIn
       (λ z. silent-is gap .1 (subst (λ (g : Micros). 20_000 < g .0) (sym (same-gap before b t i (o .session))) z)) (o .alone)
 
   open-left : isOpen (l .phase .state) ≡ true → Left
-  unfolding begun replyAt
+  unfolding replyAt
   open-left p =
-      settled-left (run-open (begun l b) (l .mark) (b .start) p (open-silent p) not-idled)
+      settled-left (ended-left (l .mark) b (l .phase) (left-by l b) p (open-silent p) not-idled)
       (rw (lt-ltb 0 (heldIn ours before) (open-holds before p)) refl)
 
   -- the link's test is the history's
-  same-test : StaysOut (l .phase) (l .mark) (b .start) ≡ (isFirst (t .reply) && isPassed (inForce t .p2max) (gapBefore (takenOf before) b))
+  abbrev StaysOut : Bool
+  StaysOut = isFirst (l .phase .reply) && isPassed (l .phase .windows .p2max) gap
+
+  same-test : StaysOut ≡ (isFirst (t .reply) && isPassed (inForce t .p2max) (gapBefore (takenOf before) b))
   same-test j = isFirst (replied before b t i (o .session) j) && same-p2 before b t i (o .session) j
 
   none-held : isQuiet (l .phase .state) ≡ true → (c : Bool) → (isFirst (t .reply) && isPassed (inForce t .p2max) (gapBefore (takenOf before) b)) ≡ c
@@ -137,14 +145,15 @@ module _ (before : Log) (b : Event) (t : Talk) (i : InBytes before) (o : OpensIn
   none-held q c h = rw (quiet-holds before b t i (o .session) q, h) refl
 
   quiet-left : isQuiet (l .phase .state) ≡ true → Left
-  unfolding begun
   quiet-left q =
-      ⊎-elim (λ x. settled-left (x .1) (none-held q true (sym same-test ∙ x .0)))
-      (λ x. record {
+      ⊎-elim (λ x. let w = x .0 in settled-left (x .1) (none-held q true (sym same-test ∙ rw (w .1, w .2) refl)))
+      (λ x.
+      let out : StaysOut ≡ false = false-of StaysOut (λ z. let y = and-split (isFirst (l .phase .reply)) _ z in x .0 (q, y .0, y .1)) in
+      record {
         quiet = ap (λ (p : Phase). isQuiet (p .state)) (x .1) ∙ q;
-        reply = ap (λ (p : Phase). p .reply) (x .1) ∙ replied before b t i (o .session) ∙ sym (none-held q false (sym same-test ∙ x .0));
+        reply = ap (λ (p : Phase). p .reply) (x .1) ∙ replied before b t i (o .session) ∙ sym (none-held q false (sym same-test ∙ out));
       })
-      (run-quiet (begun l b) (l .mark) (b .start) q not-idled)
+      (quiet-after (l .mark) b (l .phase) (left-by l b) q not-idled)
 
   left : Left
   left = open-or Left (l .phase .state) (at-link .fits .connected) open-left quiet-left

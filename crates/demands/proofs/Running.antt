@@ -4,9 +4,10 @@
 use Prim.Native.Nat.{ℕ, _-_, _≤_}
 use mathlib.Core.Bool.{Bool, true, false, false≢true}
 use mathlib.Core.Path.{_≡_, _∙_, refl, sym, ap, ap₂, subst}
+use mathlib.Core.Logic.{inl, inr}
 use native.Mathlib.Omega.{arith}
 use borrow.Author.Tests.{ltb-false, le-ltb}
-use Rattle.base.specs.Reports.{noReason, dropped, restarted}
+use Rattle.base.specs.Reports.{noReason, restarted}
 use Rattle.units.specs.Units.{micros}
 use Rattle.units.specs.declared.Micros.{Micros}
 use Rattle.events.specs.Events.{marks}
@@ -15,20 +16,18 @@ use Rattle.events.specs.declared.Kind.the-variants.{Address, WakeUp, Byte, Tick
 use Rattle.events.specs.declared.Event.{Event}
 use Rattle.starts.specs.Starts.{dueAt, originOf, judged, isOver, isLast, onward, noStart, slowStart, fastStart}
 use Rattle.starts.specs.declared.Start.{Start}
-use Rattle.phases.specs.Phases.{isStarting, isQuiet, down, starting}
+use Rattle.phases.specs.Phases.{isStarting, down, starting}
 use Rattle.phases.specs.declared.Phase.{Phase}
-use Rattle.moves.specs.Moves.{still, sinceOrigin, isIdle, startingSlow, isGoodLow, startingFast, startByte, afterByte, afterStop}
-use Rattle.moves.specs.declared.Move.{Move}
-use Rattle.reports.specs.Reporting.{moved, withPhase}
+use Rattle.moves.specs.Moves.{sinceOrigin, isIdle, isGoodLow}
+use Rattle.reports.specs.Reporting.{withPhase}
 use Rattle.reports.specs.declared.Run.{Run}
-use Rattle.link.specs.Handling.{freshLink, passed, shut, hearing, byteHeard, acted, begun, handled, linkAfter}
+use Rattle.link.specs.Handling.{freshLink, passed, shut, hearing, begun, handled, linkAfter}
 use Rattle.link.specs.declared.Link.{Link}
 use Rattle.demands.specs.Logs.{Log, none, _▷_, markOf}
 use Rattle.demands.specs.Connecting.{Since, here, tick, byte}
-use Rattle.demands.proofs.Tiling.{moved-phase}
-use Rattle.demands.proofs.Entering.{In, Open, carried, left-alone, passed-in, passed-open, shut-out, slow-in, slow-starts, fast-in, fast-starts}
-use Rattle.demands.proofs.Entering.{start-goes, start-in, byte-in, byte-starts, stop-in}
-use Rattle.demands.proofs.Completing.{Completes, acted-slow, acted-fast, acted-byte, acted-tick, acted-drop}
+use Rattle.demands.proofs.Entering.{In, Open, carried, Completes, Leads, begins-slow, begins-fast, grows, waits}
+use Rattle.demands.proofs.Causes.{leads}
+use Rattle.demands.proofs.Completing.{slow-run, fast-run, wait-run, right-run}
 
 -- ---- the initialization that an event starts, and how far the bytes behind it bring it
 abbrev pub firstBy : Kind → ℕ → Start
@@ -162,95 +161,39 @@ pub record Behind (l : Link) (log : Log) (e : Event) : Type 0 where
   pub ordered : e .start .0 ≤ e .end .0
   pub known : e .kind ≡ Other → ⊥
 
--- the move of a start, by its kind
-abbrev startMove : Kind → Event → Micros → Move
-startMove Address e m = startingSlow (e .value) m (e .start)
-startMove WakeUp e m = startingFast m (e .start) (e .end)
-startMove Byte e m = still down
-startMove Tick e m = still down
-startMove Drop e m = still down
-startMove Other e m = still down
-
-move-in : (k : Kind) (e : Event) (m : Micros) → In (startMove k e m .phase) → Starts k m e
-unfolding down isStarting
-move-in Address e m i = slow-in (e .value) m (e .start) i
-move-in WakeUp e m i = fast-in m (e .start) (e .end) i
-move-in Byte e m i = false≢true i
-move-in Tick e m i = false≢true i
-move-in Drop e m i = false≢true i
-move-in Other e m i = false≢true i
-
-move-starts : (k : Kind) (e : Event) (m : Micros) → Starts k m e → startMove k e m ≡ still (starting (fallBy k (e .start)) (firstBy k (e .value)))
-move-starts Address e m s = slow-starts (e .value) m (e .start) s
-move-starts WakeUp e m s = fast-starts m (e .start) (e .end) (s .0) (s .1)
-move-starts Byte e m s = absurd s
-move-starts Tick e m s = absurd s
-move-starts Drop e m s = absurd s
-move-starts Other e m s = absurd s
-
-move-on : (e : Event) (m : Micros) → Starts (e .kind) m e → startMove (e .kind) e m .phase ≡ phaseOn e none
+-- the initialization that a good start leads to
+slow-first : (e : Event) → e .kind ≡ Address → starting (micros 0) (slowStart (e .value)) ≡ phaseOn e none
 unfolding startOn
-move-on e m s = ap (λ (x : Move). x .phase) (move-starts (e .kind) e m s)
+slow-first e k = sym (ap (λ (x : Kind). starting (fallBy x (e .start)) (firstBy x (e .value))) k)
 
--- a byte that leads into an initialization, and what it leads to
-heard-in : (r : Run) (e : Event) (mark : Micros) → In (byteHeard r e mark .phase)
-    → byteHeard r e mark .phase ≡ afterByte (r .phase) (e .side) (e .value) mark (e .start) .phase
-unfolding byteHeard
-heard-in r e mark i =
-    let m1 = afterByte (r .phase) (e .side) (e .value) mark (e .start) in
-    let r1 = moved (hearing r) m1 in
-    left-alone r1 (afterStop (r1 .phase)) (stop-in (r1 .phase)) i ∙ moved-phase (hearing r) m1
-
-pub heard-goes : (r : Run) (e : Event) (mark fall : Micros) (s : Start)
-    → afterByte (r .phase) (e .side) (e .value) mark (e .start) ≡ still (starting fall s)
-    → byteHeard r e mark ≡ withPhase (hearing r) (starting fall s)
-unfolding byteHeard moved afterStop starting isQuiet
-heard-goes r e mark fall s h = rw h refl
+fast-first : (e : Event) → e .kind ≡ WakeUp → starting (e .start) fastStart ≡ phaseOn e none
+unfolding startOn
+fast-first e k = sym (ap (λ (x : Kind). starting (fallBy x (e .start)) (firstBy x (e .value))) k)
 
 module _ (l : Link) (log : Log) (e : Event) (t : Behind l log e) (inv : Inv l log) where
   abbrev r : Run
   r = passed (begun l e) (l .mark) (e .start)
 
-  pub passed-same : In (l .phase) → Open (l .phase) (l .mark) (e .start) → r ≡ begun l e
-  unfolding begun
-  passed-same i o = passed-open (begun l e) (l .mark) (e .start) i o
-
-  handled-is : (x : Run) → acted r e (l .mark) ≡ x → handled l e ≡ x
-  unfolding handled
-  handled-is x q = q
-
   on-mark : {p : Phase} (g : Going p log) → l .mark ≡ lastEnd (g .start) (g .bytes)
   on-mark g = t .mark ∙ since-mark (runs-mark (markOf (g .before)) (g .start) (g .bytes) (g .runs)) (g .since)
 
   -- ---- forth
-  forth-start : handled l e ≡ moved (shut r restarted) (startMove (e .kind) e (l .mark)) → In (handled l e .phase)
-      → Going (handled l e .phase) (log ▷ e)
-  forth-start h i =
-      let q = ap (λ (x : Run). x .phase) h ∙ moved-phase (shut r restarted) (startMove (e .kind) e (l .mark)) in
-      let s = move-in (e .kind) e (l .mark) (carried _ _ q i) in
-      record {
-        start = e;
-        before = log;
-        bytes = none;
-        since = here;
-        runs = subst (λ (m : Micros). Starts (e .kind) m e) (t .mark) s;
-        phase = q ∙ move-on e (l .mark) s;
-      }
+  forth-start : (q : Phase) → Starts (e .kind) (l .mark) e → q ≡ phaseOn e none → Going q (log ▷ e)
+  forth-start q s h = record {
+    start = e;
+    before = log;
+    bytes = none;
+    since = here;
+    runs = subst (λ (m : Micros). Starts (e .kind) m e) (t .mark) s;
+    phase = h;
+  }
 
-  forth-byte : e .kind ≡ Byte → In (handled l e .phase) → Going (handled l e .phase) (log ▷ e)
-  unfolding begun
-  forth-byte k i =
-      let h = ap (λ (x : Run). x .phase) (handled-is _ (acted-byte r e (l .mark) k)) in
-      let q = h ∙ heard-in r e (l .mark) (carried _ _ h i) in
-      let w = passed-in (begun l e) (l .mark) (e .start) (byte-in (r .phase) (e .side) (e .value) (l .mark) (e .start) (carried _ _ q i)) in
-      let g = inv .forth (w .was) in
+  forth-by : (q : Phase) → Leads l e q → Going q (log ▷ e)
+  forth-by q (begins-slow k i) = forth-start q (subst (λ (x : Kind). Starts x (l .mark) e) (sym k) i) (slow-first e k)
+  forth-by q (begins-fast k i g) = forth-start q (subst (λ (x : Kind). Starts x (l .mark) e) (sym k) (i, g)) (fast-first e k)
+  forth-by q (grows k i o v z) =
+      let g = inv .forth i in
       let m = on-mark g in
-      let gap = sinceOrigin (l .phase) (l .mark) (e .start) in
-      let moves : afterByte (r .phase) (e .side) (e .value) (l .mark) (e .start) ≡ startByte (l .phase) (e .side) (e .value) gap =
-      ap (λ (x : Run). afterByte (x .phase) (e .side) (e .value) (l .mark) (e .start)) (passed-same (w .was) (w .window))
-      ∙ byte-starts (l .phase) (e .side) (e .value) (l .mark) (e .start) (w .was) in
-      let u = q ∙ ap (λ (x : Move). x .phase) moves in
-      let z = start-in (l .phase) (e .side) (e .value) gap (carried _ _ u i) in
       record {
         start = g .start;
         before = g .before;
@@ -260,59 +203,30 @@ module _ (l : Link) (log : Log) (e : Event) (t : Behind l log e) (inv : Inv l lo
           g .runs,
           record {
             later = omega (arith, ap (λ (x : Micros). x .0) m, t .order, t .later);
-            window = sym (over-same (l .phase) (l .mark) (g .start) (g .bytes) e (g .phase) m) ∙ w .window;
-            right = sym (judged-same (l .phase) (l .mark) (g .start) (g .bytes) e (g .phase) m) ∙ z .0;
+            window = sym (over-same (l .phase) (l .mark) (g .start) (g .bytes) e (g .phase) m) ∙ o;
+            right = sym (judged-same (l .phase) (l .mark) (g .start) (g .bytes) e (g .phase) m) ∙ v;
           },
-          sym (last-same (l .phase) (l .mark) (g .start) (g .bytes) e (g .phase) m) ∙ z .1,
+          sym (last-same (l .phase) (l .mark) (g .start) (g .bytes) e (g .phase) m) ∙ z,
         );
-        phase = u ∙ ap (λ (x : Move). x .phase) (start-goes (l .phase) (e .side) (e .value) gap (z .0) (z .1))
-            ∙ next-same (l .phase) (l .mark) (g .start) (g .bytes) e (g .phase) m;
+        phase = next-same (l .phase) (l .mark) (g .start) (g .bytes) e (g .phase) m;
       }
-
-  forth-tick : e .kind ≡ Tick → In (handled l e .phase) → Going (handled l e .phase) (log ▷ e)
-  unfolding begun
-  forth-tick k i =
-      let h = ap (λ (x : Run). x .phase) (handled-is _ (acted-tick r e (l .mark) k)) in
-      let w = passed-in (begun l e) (l .mark) (e .start) (carried _ _ h i) in
-      let g = inv .forth (w .was) in
-      record {
-        start = g .start;
-        before = g .before;
-        bytes = g .bytes;
-        since = tick k (g .since);
-        runs = g .runs;
-        phase = h ∙ ap (λ (x : Run). x .phase) (passed-same (w .was) (w .window)) ∙ g .phase;
-      }
-
-  slow-acts : e .kind ≡ Address → handled l e ≡ moved (shut r restarted) (startMove (e .kind) e (l .mark))
-  slow-acts k = handled-is _ (acted-slow r e (l .mark) k ∙ sym (ap (λ (x : Kind). moved (shut r restarted) (startMove x e (l .mark))) k))
-
-  fast-acts : e .kind ≡ WakeUp → handled l e ≡ moved (shut r restarted) (startMove (e .kind) e (l .mark))
-  fast-acts k = handled-is _ (acted-fast r e (l .mark) k ∙ sym (ap (λ (x : Kind). moved (shut r restarted) (startMove x e (l .mark))) k))
-
-  forth-by : (k : Kind) → e .kind ≡ k → In (handled l e .phase) → Going (handled l e .phase) (log ▷ e)
-  forth-by Address k i = forth-start (slow-acts k) i
-  forth-by WakeUp k i = forth-start (fast-acts k) i
-  forth-by Byte k i = forth-byte k i
-  forth-by Tick k i = forth-tick k i
-  forth-by Drop k i = absurd (shut-out r dropped (carried _ _ (ap (λ (x : Run). x .phase) (handled-is _ (acted-drop r e (l .mark) k))) i))
-  forth-by Other k i = absurd (t .known k)
+  forth-by q (waits (inl k) i o) =
+      let g = inv .forth i in
+      record { start = g .start; before = g .before; bytes = g .bytes; since = tick k (g .since); runs = g .runs; phase = g .phase }
+  forth-by q (waits (inr k) i o) = absurd (t .known k)
 
   -- ---- and back: what the event makes of the run
-  start-acts : (k : Kind) → e .kind ≡ k → Starts k (markOf log) e → handled l e ≡ moved (shut r restarted) (startMove (e .kind) e (l .mark))
-  start-acts Address k s = slow-acts k
-  start-acts WakeUp k s = fast-acts k
-  start-acts Byte k s = absurd s
-  start-acts Tick k s = absurd s
-  start-acts Drop k s = absurd s
-  start-acts Other k s = absurd s
-
   -- a good start
+  start-by : (k : Kind) → e .kind ≡ k → Starts k (l .mark) e → handled l e ≡ withPhase (shut r restarted) (phaseOn e none)
+  start-by Address k s = slow-run l e k s ∙ ap (withPhase (shut r restarted)) (slow-first e k)
+  start-by WakeUp k s = fast-run l e k (s .0) (s .1) ∙ ap (withPhase (shut r restarted)) (fast-first e k)
+  start-by Byte k s = absurd s
+  start-by Tick k s = absurd s
+  start-by Drop k s = absurd s
+  start-by Other k s = absurd s
+
   pub back-start : Starts (e .kind) (markOf log) e → handled l e ≡ withPhase (shut r restarted) (phaseOn e none)
-  unfolding moved startOn
-  back-start s =
-      let z = subst (λ (m : Micros). Starts (e .kind) m e) (sym (t .mark)) s in
-      start-acts (e .kind) refl s ∙ ap (moved (shut r restarted)) (move-starts (e .kind) e (l .mark) z)
+  back-start s = start-by (e .kind) refl (subst (λ (m : Micros). Starts (e .kind) m e) (sym (t .mark)) s)
 
   -- with its window open at the event's start, the link is at what the log leads to
   pub record At (a : Event) (bs : Log) : Type 0 where
@@ -335,20 +249,14 @@ module _ (l : Link) (log : Log) (e : Event) (t : Behind l log e) (inv : Inv l lo
 
   -- a tick
   pub back-tick : {a : Event} {bs : Log} → At a bs → e .kind ≡ Tick → handled l e ≡ begun l e
-  back-tick w k = handled-is _ (acted-tick r e (l .mark) k) ∙ passed-same (w .was) (w .window)
+  back-tick w k = wait-run l e (w .was) (w .window) (inl k)
 
   -- a byte that is right and not the last
   pub back-byte : (a : Event) (bs : Log) → At a bs → e .kind ≡ Byte → Hears a bs e → isLastOn a bs ≡ false
       → handled l e ≡ withPhase (hearing (begun l e)) (phaseOn a (bs ▷ e))
-  unfolding begun
   back-byte a bs w k h z =
-      let gap = sinceOrigin (l .phase) (l .mark) (e .start) in
-      let right = judged-same (l .phase) (l .mark) a bs e (w .phase) (w .mark) ∙ h .right in
-      let more = last-same (l .phase) (l .mark) a bs e (w .phase) (w .mark) ∙ z in
-      let moves =
-      byte-starts (l .phase) (e .side) (e .value) (l .mark) (e .start) (w .was) ∙ start-goes (l .phase) (e .side) (e .value) gap right more in
-      handled-is _ (acted-byte r e (l .mark) k) ∙ ap (λ (x : Run). byteHeard x e (l .mark)) (passed-same (w .was) (w .window))
-      ∙ heard-goes (begun l e) e (l .mark) (l .phase .fall) (onward (l .phase .start) (e .value)) moves
+      right-run l e (w .was) (w .window) k (judged-same (l .phase) (l .mark) a bs e (w .phase) (w .mark) ∙ h .right)
+      (last-same (l .phase) (l .mark) a bs e (w .phase) (w .mark) ∙ z)
       ∙ ap (withPhase (hearing (begun l e))) (next-same (l .phase) (l .mark) a bs e (w .phase) (w .mark))
 
 back-by : (l : Link) (log : Log) (e : Event) → Behind l log e → Inv l log → (a : Event) (before bs : Log) → Since a before (log ▷ e) bs
@@ -365,7 +273,7 @@ back-by l log e t inv a before (bs ▷ b) (byte k s) u o =
 -- ---- an event that is taken keeps it
 pub inv-on : (l : Link) (log : Log) (e : Event) → Behind l log e → Inv l log → Inv (linkAfter l e (handled l e)) (log ▷ e)
 unfolding linkAfter
-inv-on l log e t inv = record { forth = forth-by l log e t inv (e .kind) refl; back = back-by l log e t inv }
+inv-on l log e t inv = record { forth = λ i. forth-by l log e t inv (handled l e .phase) (leads l e i); back = back-by l log e t inv }
 
 pub no-since : (a : Event) (before bs : Log) → Since a before none bs → ⊥
 no-since a before bs s = elim s [ ]

@@ -1,13 +1,22 @@
--- Reports in a list: which are among them, and what they make of a talk, for a list that is made of two. Assumes nothing.
+-- Reports in a list: which are among them, of which number and reason, and what they make of a talk, for a list that is made of two; and the report of a move.
+-- Assumes nothing.
 use Prim.Native.Nat.{ℕ}
-use mathlib.Core.Bool.{Bool, _||_, or-assoc}
+use mathlib.Core.Bool.{Bool, true, false, _||_, or-assoc, false≢true}
 use mathlib.Core.List.{List, [], _∷_, _++_}
-use mathlib.Core.Path.{_≡_, refl, sym, ap, _∙_}
+use mathlib.Core.Path.{_≡_, refl, sym, ap, _∙_, subst}
 use mathlib.Core.Logic.{_⊎_, inl, inr, ⊎-elim}
+use borrow.Author.Tests.{eqb-true, eq-eqb}
 use lib.Dec.{eqb}
+use Rattle.base.proofs.Tests.{or-split, by-test}
+use Rattle.phases.specs.declared.Phase.{Phase}
+use Rattle.moves.specs.Moves.{still, makes}
+use Rattle.moves.specs.declared.Move.{Move}
+use Rattle.reports.specs.Reporting.{reportOf}
 use Rattle.reports.specs.declared.Report.{Report}
+use Rattle.reports.specs.declared.Run.{Run}
+use Rattle.link.specs.Telling.{tells}
 use Rattle.demands.specs.Logs.{Log}
-use Rattle.demands.specs.Histories.{isAmong, Among, first, later}
+use Rattle.demands.specs.Histories.{isAmong, Says, Among, first, later, Tells}
 use Rattle.demands.specs.Sessions.{Talk, afterReport, talkAfter}
 
 -- ---- a report among them
@@ -51,6 +60,78 @@ says-both number [] ss = refl
 says-both number (r ∷ rs) ss =
     ap (λ (b : Bool). eqb (r .number) number || b) (says-both number rs ss)
     ∙ sym (or-assoc (eqb (r .number) number) (isAmong number rs) (isAmong number ss))
+
+pub record Speaks (number : ℕ) (rs : List Report) : Type 0 where
+  pub report : Report
+  pub made : Among report rs
+  pub number-is : report .number ≡ number
+
+or-second : (a b : Bool) → b ≡ true → (a || b) ≡ true
+or-second true b h = refl
+or-second false b h = h
+
+pub among-says : {r : Report} {rs : List Report} (number : ℕ) → Among r rs → r .number ≡ number → Says number rs
+unfolding isAmong
+among-says {r = r} number first q = rw (eq-eqb (r .number) number q) refl
+among-says {r = r} number (later {rs = rs} {s = s} a) q = or-second (eqb (s .number) number) (isAmong number rs) (among-says number a q)
+
+pub says-speaks : (number : ℕ) (rs : List Report) → Says number rs → Speaks number rs
+unfolding isAmong
+says-speaks number [] s = absurd (false≢true s)
+says-speaks number (r ∷ rs) s =
+    ⊎-elim (λ q. record { report = r; made = first; number-is = eqb-true (r .number) number q })
+    (λ q. let x = says-speaks number rs q in record { report = x .report; made = later (x .made); number-is = x .number-is })
+    (or-split (eqb (r .number) number) (isAmong number rs) s)
+
+-- ---- a report of this number and reason
+pub tells-says : (number reason : ℕ) (rs : List Report) → Tells number reason rs → Says number rs
+tells-says number reason rs t = among-says number (t .made) (t .number-is)
+
+pub tells-left : (number reason : ℕ) (rs ss : List Report) → Tells number reason rs → Tells number reason (rs ++ ss)
+tells-left number reason rs ss t = record {
+  report = t .report;
+  made = among-left ss (t .made);
+  number-is = t .number-is;
+  reason-is = t .reason-is;
+}
+
+pub tells-right : (number reason : ℕ) (rs ss : List Report) → Tells number reason ss → Tells number reason (rs ++ ss)
+tells-right number reason rs ss t = record {
+  report = t .report;
+  made = among-right rs (t .made);
+  number-is = t .number-is;
+  reason-is = t .reason-is;
+}
+
+-- ---- of a move
+makes-tells : (r : Run) (number reason : ℕ) (p : Phase) → eqb number 0 ≡ false → Tells number reason (tells r (makes number reason p))
+unfolding tells reportOf
+makes-tells r number reason p z = rw z (record { report = reportOf r number reason; made = first; number-is = refl; reason-is = refl })
+
+pub move-tells : (r : Run) (m : Move) (number reason : ℕ) (p : Phase) → eqb number 0 ≡ false → m ≡ makes number reason p → Tells number reason (tells r m)
+move-tells r m number reason p z q = subst (λ (x : Move). Tells number reason (tells r x)) (sym q) (makes-tells r number reason p z)
+
+-- what holds of a move's report, if it makes one, holds of each that it tells
+pub tells-each : (P : Report → Type 0) (r : Run) (m : Move) → (eqb (m .number) 0 ≡ false → P (reportOf r (m .number) (m .reason))) → Each P (tells r m)
+unfolding tells
+tells-each P r m h =
+    by-test (Each P) (eqb (m .number) 0) {x = []} {y = reportOf r (m .number) (m .reason) ∷ []} (λ _. each-none P) (λ z. each-one P _ (h z))
+
+-- what holds of the number and the reason of a move's report, if it makes one, holds of the report
+abbrev pub EachOf : (ℕ → ℕ → Type 0) → List Report → Type 0
+EachOf C rs = Each (λ (x : Report). C (x .number) (x .reason)) rs
+
+abbrev pub Makes : (ℕ → ℕ → Type 0) → Move → Type 0
+Makes C m = eqb (m .number) 0 ≡ false → C (m .number) (m .reason)
+
+pub silent : (C : ℕ → ℕ → Type 0) (p : Phase) → Makes C (still p)
+silent C p z = absurd (false≢true (sym z))
+
+pub move-each : (C : ℕ → ℕ → Type 0) (r : Run) (m : Move) → Makes C m → EachOf C (tells r m)
+unfolding tells reportOf
+move-each C r m h =
+    by-test (EachOf C) (eqb (m .number) 0) {x = []} {y = reportOf r (m .number) (m .reason) ∷ []} (λ _. each-none (λ (x : Report). C (x .number) (x .reason)))
+    (λ z. each-one (λ (x : Report). C (x .number) (x .reason)) _ (h z))
 
 -- ---- what they make of a talk
 pub talk-both : (t : Talk) (log : Log) (rs ss : List Report) → talkAfter t log (rs ++ ss) ≡ talkAfter (talkAfter t log rs) log ss

@@ -5,7 +5,7 @@
 use Prim.Native.Nat.{ℕ}
 use mathlib.Core.Bool.{true, false, not, _&&_}
 use mathlib.Core.Logic.{_⊎_, inl, inr}
-use mathlib.Core.Path.{_≡_, refl}
+use mathlib.Core.Path.{_≡_, refl, sym, ap, _∙_}
 use borrow.Author.Tests.{not-true, not-false}
 use lib.Dec.{eqb}
 use Rattle.base.specs.Reports.{frameReport, damageReport, connectedReport, failedReport, outsideReport, noReplyReport, downReport, notIdleReport}
@@ -14,7 +14,8 @@ use Rattle.base.proofs.Tests.{and-split, by-test}
 use Rattle.units.specs.Units.{micros, gapOf}
 use Rattle.units.specs.declared.Micros.{Micros}
 use Rattle.timing.specs.Timing.{isPassed}
-use Rattle.events.specs.declared.Kind.the-variants.{Address, WakeUp, Drop}
+use Rattle.events.specs.declared.Kind.{Kind}
+use Rattle.events.specs.declared.Kind.the-variants.{Address, WakeUp, Byte, Tick, Drop, Other}
 use Rattle.events.specs.declared.Event.{Event}
 use Rattle.starts.specs.Starts.{judged, isOver, isLast, onward, slowStart, fastStart}
 use Rattle.talk.specs.Talk.{isFirst, begun, laterReason, isSum, grown, isStopped}
@@ -22,7 +23,7 @@ use Rattle.phases.specs.Phases.{isStarting, isQuiet, isOpen, down, off, startin
 use Rattle.phases.specs.declared.State.{State}
 use Rattle.phases.specs.declared.State.the-variants.{Down, Starting, Quiet, Held, Damage}
 use Rattle.phases.specs.declared.Phase.{Phase}
-use Rattle.phases.proofs.StateTests.{is-starting, is-quiet}
+use Rattle.phases.proofs.StateTests.{is-starting, is-quiet, starting-apart, quiet-is, starting-is}
 use Rattle.moves.specs.Moves.{still, makes, lossReason, ended, isSilent, afterSilence, afterP2, afterP3, sinceOrigin, afterWindow, closing, leaving}
 use Rattle.moves.specs.Moves.{isIdle, startingSlow, isGoodLow, startingFast, startByte, reasonAtFirst, firstByte, laterByte, byteIn, afterByte, afterStop}
 use Rattle.moves.specs.declared.Move.{Move}
@@ -200,3 +201,83 @@ module _ (mark : Micros) (e : Event) (p : Phase) where
   pub by-stop : Rule at-stop (afterStop p)
   unfolding afterStop
   by-stop = by-test (Rule at-stop) (isQuiet (p .state) && isStopped (p .request)) (λ t. let x = and-split _ _ t in stops (is-quiet _ (x .0)) (x .1)) rests
+
+  -- ---- AT EACH MOMENT ONE MOVE: the one that the definitions make, whichever rule it is told by
+  abbrev reasonOf : Kind → ℕ
+  reasonOf Drop = dropped
+  reasonOf Address = restarted
+  reasonOf WakeUp = restarted
+  reasonOf Byte = noReason
+  reasonOf Tick = noReason
+  reasonOf Other = noReason
+
+  abbrev startOf : Kind → Move
+  startOf Address = startingSlow (e .value) mark (e .start)
+  startOf WakeUp = startingFast mark (e .start) (e .end)
+  startOf Byte = still p
+  startOf Tick = still p
+  startOf Drop = still p
+  startOf Other = still p
+
+  abbrev moveAt : Moment → Move
+  moveAt at-silence = afterSilence p gap
+  moveAt at-p2 = afterP2 p gap
+  moveAt at-p3 = afterP3 p gap
+  moveAt at-window = afterWindow p mark (e .start)
+  moveAt at-closing = closing p
+  moveAt at-leaving = leaving p (reasonOf (e .kind))
+  moveAt at-start = startOf (e .kind)
+  moveAt at-byte = afterByte p (e .side) (e .value) mark (e .start)
+  moveAt at-stop = afterStop p
+  moveAt at-end = still p
+
+  closes-for : {reason : ℕ} → Closes e reason → reason ≡ reasonOf (e .kind)
+  closes-for (by-drop k) = sym (ap reasonOf k)
+  closes-for (by-address k) = sym (ap reasonOf k)
+  closes-for (by-wake-up k) = sym (ap reasonOf k)
+
+  byte-of : (st : State) → p .state ≡ st → byteIn st p (e .side) (e .value) mark (e .start) ≡ moveAt at-byte
+  unfolding afterByte
+  byte-of st q = sym (ap (λ (x : State). byteIn x p (e .side) (e .value) mark (e .start)) q)
+
+  rests-at : (k : Moment) → Unmoved k → still p ≡ moveAt k
+  unfolding afterSilence afterP2 afterP3 afterWindow closing leaving afterStop
+  rests-at at-silence u = rw u refl
+  rests-at at-p2 u = rw u refl
+  rests-at at-p3 u = rw u refl
+  rests-at at-window u = rw u refl
+  rests-at at-closing u = rw (u .0, u .1) refl
+  rests-at at-leaving u = rw u refl
+  rests-at at-start u = absurd u
+  rests-at at-byte u = byte-of Damage u
+  rests-at at-stop u = rw u refl
+  rests-at at-end u = absurd u
+
+  is-move : {k : Moment} {m : Move} → Rule k m → m ≡ moveAt k
+  unfolding afterSilence afterP2 afterP3 afterWindow closing leaving startingSlow startingFast startByte firstByte laterByte afterStop
+  is-move (rests {k = k} u) = rests-at k u
+  is-move (breaks-off o s) = rw (o, s) refl
+  is-move (waited q f t) = rw (quiet-is q, f, t) refl
+  is-move (idled q f t) = rw (quiet-is q, f, t) refl
+  is-move (expires s o) = rw (starting-is s, o) refl
+  is-move (cuts-off o) = rw o refl
+  is-move (aborts s) = rw (starting-apart (p .state) (starting-is s) .1, starting-is s) refl
+  is-move (leaves c q) = ap (λ (r : ℕ). makes downReport r off) (closes-for c) ∙ rw (quiet-is q) refl
+  is-move (starts-slow k i) = rw (ap startOf k, i) refl
+  is-move (starts-fast k i l) = rw (ap startOf k, i, l) refl
+  is-move (hurries (inl k) i) = rw (ap startOf k, i) refl
+  is-move (hurries (inr k) i) = rw (ap startOf k, i) refl
+  is-move (low k i l) = rw (ap startOf k, i, l) refl
+  is-move (strays d) = byte-of Down d
+  is-move (misses s v) = rw v refl ∙ byte-of Starting s
+  is-move (connects s v l) = rw (v, l) refl ∙ byte-of Starting s
+  is-move (goes-on s v l) = rw (v, l) refl ∙ byte-of Starting s
+  is-move (opens q r) = rw r refl ∙ byte-of Quiet q
+  is-move (errs q r) = rw r refl ∙ byte-of Quiet q
+  is-move (breaks h r) = rw r refl ∙ byte-of Held h
+  is-move (frames h r s) = rw (r, s) refl ∙ byte-of Held h
+  is-move (grows h r s) = rw (r, s) refl ∙ byte-of Held h
+  is-move (stops q r) = rw (quiet-is q, r) refl
+
+  pub one-move : {k : Moment} {m n : Move} → Rule k m → Rule k n → m ≡ n
+  one-move u v = is-move u ∙ sym (is-move v)

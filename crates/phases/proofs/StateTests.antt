@@ -1,6 +1,6 @@
 -- What one test of a state says of another. Assumes nothing.
 use mathlib.Core.Bool.{true, false, false≢true}
-use mathlib.Core.Path.{_≡_, refl, sym}
+use mathlib.Core.Path.{_≡_, refl, sym, ap}
 use Rattle.phases.specs.Phases.{isStarting, isQuiet, isHeld, isOpen, isConnected}
 use Rattle.phases.specs.declared.State.{State}
 use Rattle.phases.specs.declared.State.the-variants.{Down, Starting, Quiet, Held, Damage}
@@ -79,3 +79,28 @@ open-unquiet Starting o q = false≢true q
 open-unquiet Quiet o q = false≢true o
 open-unquiet Held o q = false≢true q
 open-unquiet Damage o q = false≢true q
+
+pub quiet-shut : (st : State) → isQuiet st ≡ true → (isOpen st ≡ false) × (isStarting st ≡ false)
+unfolding isQuiet isOpen isStarting
+quiet-shut Down q = absurd (false≢true q)
+quiet-shut Starting q = absurd (false≢true q)
+quiet-shut Quiet q = (refl, refl)
+quiet-shut Held q = absurd (false≢true q)
+quiet-shut Damage q = absurd (false≢true q)
+
+pub starting-apart : (st : State) → isStarting st ≡ true → (isConnected st ≡ false) × (isOpen st ≡ false)
+unfolding isStarting isConnected isOpen
+starting-apart Down s = absurd (false≢true s)
+starting-apart Starting s = (refl, refl)
+starting-apart Quiet s = absurd (false≢true s)
+starting-apart Held s = absurd (false≢true s)
+starting-apart Damage s = absurd (false≢true s)
+
+-- the tests of a state by name
+pub quiet-is : {st : State} → st ≡ Quiet → isQuiet st ≡ true
+unfolding isQuiet
+quiet-is q = ap isQuiet q
+
+pub starting-is : {st : State} → st ≡ Starting → isStarting st ≡ true
+unfolding isStarting
+starting-is q = ap isStarting q
