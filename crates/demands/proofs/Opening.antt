@@ -38,7 +38,8 @@ use Rattle.demands.specs.Logs.{Log, _▷_, heardIn, numberAfter, takenOf
 use Rattle.demands.specs.Histories.{after, reportsTo, Says, isAmong, Among, Tells}
 use Rattle.demands.specs.Accounts.{heldIn}
 use Rattle.demands.specs.Connecting.{Connects}
-use Rattle.demands.specs.Sessions.{stops, pendingIn, Talk, talkAfter, Session, opens, lasts, inForce, gapBefore, OpensIn, replyOnceEnded, replyAt, Early, Stray, Turns}
+use Rattle.demands.specs.Sessions.{stops, pendingIn, Talk, talkAfter, Session, opens, lasts, inForce, gapBefore, OpensIn}
+use Rattle.demands.specs.Sessions.{replyOnceEnded, replyAt, Early, Stray, Turns}
 use Rattle.demands.specs.Messages.{Speaks, begins, refused, waits, grows, EndsInFrame, ReportsFrame}
 use Rattle.demands.specs.Endings.{AnswersStop}
 use Rattle.listing.specs.Listing.{heldOf}
