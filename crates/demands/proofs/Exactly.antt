@@ -31,7 +31,7 @@ use Rattle.demands.proofs.Basics.{basics, answer-taken, answer-refused}
 use Rattle.demands.proofs.Entering.{Completes}
 use Rattle.demands.proofs.Completing.{says-completes, completes-says}
 use Rattle.demands.proofs.Running.{startOn, Starts, Done, runs-starts, Behind, Inv, inv-on, inv-fresh, Ends, ends-of, completes-of}
-use Rattle.demands.proofs.Waking.{Waited, runs-idle}
+use Rattle.demands.proofs.Waking.{IdleSince, runs-idle}
 use Rattle.demands.proofs.Slowly.{slow-done, done-slow}
 use Rattle.demands.proofs.Fastly.{fast-done, done-fast}
 use Rattle.demands.specs.Ours.{ours}
@@ -67,7 +67,7 @@ module _ (log : Log) (e : Event) (x : Ends log e) where
   connects-of : Connects log e
   connects-of = connects-by (x .start .kind) refl (runs-starts m (x .start) (x .bytes) (x .done .0))
 
-pub done-of : (m : Micros) (a : Event) (pair : Pair) (bs : Log) (e : Event) → Waited m a
+pub done-of : (m : Micros) (a : Event) (pair : Pair) (bs : Log) (e : Event) → IdleSince m a
     → SlowStart a pair (bs ▷ e) ⊎ FastStart a pair (bs ▷ e)
     → Done m a bs e × (startOn a bs .pair ≡ pair) × (isGood pair ≡ true)
 done-of m a pair bs e i (inl s) = done-slow m a pair bs e i s

@@ -28,7 +28,7 @@ use Rattle.demands.specs.Starts.{any, only, sumBehind, IsOne, lastPlace,
 use Rattle.demands.specs.Starts.{Header, plain, plain-long, addressed, addressed-long, FastStart, fast}
 use Rattle.demands.specs.Starts.{dueData, dueLength, dueAddresses, dueReply, dueFast, dueSlow, isAddress, due}
 use Rattle.demands.proofs.Running.{fallBy, startOn, lastEnd, Starts, Runs, Done}
-use Rattle.demands.proofs.Waking.{Waited, idle-time, good-low}
+use Rattle.demands.proofs.Waking.{IdleSince, idle-time, good-low}
 use Rattle.demands.proofs.Staged.{at, placeOf}
 use Rattle.demands.proofs.Judging.{Passes, comes, right-of, comes-next, On, on-first, on-more, on-next, on-last, way, done-good}
 
@@ -215,7 +215,7 @@ opens-passes w f k l p =
     (right-of fastStart (w .start) (w .end) f (omega (arith, l .1, p .1 .0)) p)
 
 -- the request
-on-request : (m : Micros) (w : Event) (bs : Log) (c : Event) → Waited m w → Request w bs c → On m w bs (at 0 Format 0 0 0)
+on-request : (m : Micros) (w : Event) (bs : Log) (c : Event) → IdleSince m w → Request w bs c → On m w bs (at 0 Format 0 0 0)
 unfolding roleAt isOpening nextStage onward sumAfter isPairOne isPairTwo isRequestEnd isLast isEnding fastStart byteSum
 on-request m w bs c i (request {f = f} {t = t} {s = s} {d = d} k l p1 p2 p3 p4 p5) =
     let b1 = none ▷ f in
@@ -240,7 +240,7 @@ record Headed (m : Micros) (w : Event) (bs : Log) (n : ℕ) : Type 0 where
   on : On m w bs (at 0 Service sum 0 0)
   sums : sum ≡ n % 256
 
-module _ (m : Micros) (w : Event) (bs : Log) (c f : Event) (i : Waited m w) (r : Request w bs c) (p : Right replies (c .end) f) where
+module _ (m : Micros) (w : Event) (bs : Log) (c f : Event) (i : IdleSince m w) (r : Request w bs c) (p : Right replies (c .end) f) where
   abbrev x1 : ℕ
   x1 = (0 + f .value) % 256
 
@@ -281,7 +281,7 @@ on-length m w bs y len x n o p e = record {
   sums = more x n (len .value) e;
 }
 
-on-header : (m : Micros) (w : Event) (bs : Log) (h : Event) (n : ℕ) → Waited m w → Header w bs h n → Headed m w bs n
+on-header : (m : Micros) (w : Event) (bs : Log) (h : Event) (n : ℕ) → IdleSince m w → Header w bs h n → Headed m w bs n
 unfolding afterFormat
 on-header m w bs h n i (plain {bs = rq} {c = c} {f = f} r p v) = record {
   sum = (0 + f .value) % 256;
@@ -299,7 +299,7 @@ on-header m w bs h n i (addressed-long {bs = rq} {c = c} {f = f} {t = t} {s = s}
     on-length m w (rq ▷ f ▷ t) s len (x3 m w rq c f i r p t s p2 p3) (f .value + t .value + s .value)
     (on-long m w rq c f i r p t s p2 p3 (on-format m w rq c f i r p LongTarget (ap afterFormat v))) p4 (sum3 m w rq c f i r p t s p2 p3)
 
-pub done-fast : (m : Micros) (w : Event) (pair : Pair) (bs : Log) (b : Event) → Waited m w → FastStart w pair (bs ▷ b)
+pub done-fast : (m : Micros) (w : Event) (pair : Pair) (bs : Log) (b : Event) → IdleSince m w → FastStart w pair (bs ▷ b)
     → Done m w bs b × (startOn w bs .pair ≡ pair) × (isGood pair ≡ true)
 unfolding roleAt isOpening nextStage onward sumAfter isPairOne isPairTwo isRequestEnd isLast isEnding byteSum
 done-fast m w pair bs b i (fast {bs = hs} {h = h} {service = service} {one = one} {two = two} {n = n} hd p1 p2 p3 p4) =

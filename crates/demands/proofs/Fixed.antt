@@ -132,7 +132,8 @@ record New (es : Log) (e : Event) : Type 0 where
   pub low : Not (WrongLow (takenOf es) e)
 
 new : (es : Log) (e : Event) → Decided (New es e)
-new es e = all (equal (numberAfter (takenOf es) e) taken) (kind-starts (e .kind)) (never (both (kind-starts (e .kind)) (less (e .start .0) (idleUntil (takenOf es)))))
+new es e = all (equal (numberAfter (takenOf es) e) taken) (kind-starts (e .kind))
+    (never (both (kind-starts (e .kind)) (less (e .start .0) (idleUntil (takenOf es)))))
     (never (all-three (kind-wakes (e .kind)) (at-most (idleUntil (takenOf es)) (e .start .0)) (never (low e))))
   where
     all : Decided (numberAfter (takenOf es) e ≡ taken) → Decided (Starter e) → Decided (Not (NotIdle (takenOf es) e)) → Decided (Not (WrongLow (takenOf es) e)) → Decided (New es e)

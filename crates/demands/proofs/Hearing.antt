@@ -459,8 +459,9 @@ module _ (es : Log) (e : Event) (all : List Report) (kind : e .kind ≡ Byte) (n
           let size = countSum (r .heard) 1 - r .named in
           let front = drop (r .named) (bytesOf (takenOf es)) in
           let one = one-event t (r .phase) (r .named) o in
+          let left = length-drop (r .named) (bytesOf (takenOf (es ▷ e))) in
           let enough : length (front ++ (e ∷ [])) ≤ size
-          = omega (arith, heard-more (r .heard) (a .bytes), same-length (takenOf (es ▷ e)), ap length one, length-drop (r .named) (bytesOf (takenOf (es ▷ e)))) in
+          = omega (arith, heard-more (r .heard) (a .bytes), same-length (takenOf (es ▷ e)), ap length one, left) in
           ap (λ (l : List Event). lastSide (take size l)) one ∙ ap lastSide (take-all size (front ++ (e ∷ [])) enough) ∙ side-last front e
 
       slice-byte : (i : ℕ) → getD slice i 0 < 256

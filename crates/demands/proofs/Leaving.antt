@@ -7,8 +7,11 @@ use mathlib.Core.Bool.{Bool, true, false, false≢true}
 use mathlib.Core.Path.{_≡_, refl, sym, ap, _∙_}
 use mathlib.Core.Logic.{_↔_, _⊎_, ⊎-elim}
 use native.Mathlib.Omega.{arith}
+use borrow.Author.Tests.{eqb-true, eqb-false}
+use lib.Dec.{eqb}
 use Rattle.base.specs.Numbers.{taken}
 use Rattle.base.specs.Reports.{failedReport, noReplyReport, downReport, notIdleReport, noReason, wrongLow, idleOver, dropped, restarted}
+use Rattle.base.proofs.Tests.{by-test}
 use Rattle.units.specs.Units.{gapOf}
 use Rattle.units.specs.declared.Micros.{Micros}
 use Rattle.timing.specs.Timing.{isPassed}
@@ -28,7 +31,7 @@ use Rattle.demands.specs.Idle.{idleUntil}
 use Rattle.demands.specs.Refusals.{Not}
 use Rattle.demands.specs.Histories.{after, reportsTo, Says, Tells}
 use Rattle.demands.specs.Starts.{Low}
-use Rattle.demands.specs.Sessions.{Talk, Session, inForce, gapBefore, SomeSession, NoReply, IdleOver}
+use Rattle.demands.specs.Sessions.{Talk, Session, inForce, gapBefore, SomeSession, replyOnceEnded, NoReply, IdleOver}
 use Rattle.demands.specs.Accounts.{heldIn}
 use Rattle.demands.specs.Endings.{NotIdle, WrongLow, Downs}
 use Rattle.demands.proofs.Waking.{not-idle-time, idle-time, good-low}
@@ -140,16 +143,23 @@ module _ (es : Log) (e : Event) (t : Talk) (b : InBytes es) (s : Session ours es
   same-p3 : isPassed (l .phase .windows .p3max) (gapOf (l .mark) (e .start)) ≡ isPassed (inForce t .p3max) gap
   same-p3 = same-passed (λ (w : Windows). w .p3max)
 
+  -- a first reply may come once what was held has ended, if one may come and nothing was held
+  first-once : (n : ℕ) → (replyOnceEnded t n ≡ First) ↔ ((t .reply ≡ First) × (n ≡ 0))
+  unfolding replyOnceEnded isFirst
+  first-once n =
+      by-test (λ (r : Reply). (r ≡ First) ↔ ((t .reply ≡ First) × (n ≡ 0))) (eqb n 0) {x = t .reply} {y = Never}
+      (λ z. (λ f. (f, eqb-true n 0 z), λ x. x .0)) (λ z. (λ f. absurd (false≢true (ap isFirst f)), λ x. absurd (eqb-false n 0 z (x .1))))
+
   waited-is : Waited (l .phase) (gapOf (l .mark) (e .start)) ↔ NoReply t held gap
   waited-is = (
-    λ w. (sym replied ∙ first-is (l .phase .reply) (w .1), quiet-holds (w .0), sym same-p2 ∙ w .2),
-    λ n. (holds-quiet (n .1), is-first (l .phase .reply) (replied ∙ n .0), same-p2 ∙ n .2),
+    λ w. (first-once held .1 (sym replied ∙ first-is (l .phase .reply) (w .1), quiet-holds (w .0)), sym same-p2 ∙ w .2),
+    λ n. let f = first-once held .0 (n .0) in (holds-quiet (f .1), is-first (l .phase .reply) (replied ∙ f .0), same-p2 ∙ n .1),
   )
 
   pub idled-is : Idled (l .phase) (gapOf (l .mark) (e .start)) ↔ IdleOver t held gap
   idled-is = (
-    λ i. (sym same-p3 ∙ i .1, λ f z. sym same-p2 ∙ i .2 (holds-quiet z) (is-first (l .phase .reply) (replied ∙ f))),
-    λ i. (is-in .connected, same-p3 ∙ i .0, λ q f. same-p2 ∙ i .1 (sym replied ∙ first-is (l .phase .reply) f) (quiet-holds q)),
+    λ i. (sym same-p3 ∙ i .1, λ z. let f = first-once held .0 z in sym same-p2 ∙ i .2 (holds-quiet (f .1)) (is-first (l .phase .reply) (replied ∙ f .0))),
+    λ i. (is-in .connected, same-p3 ∙ i .0, λ q f. same-p2 ∙ i .1 (first-once held .1 (sym replied ∙ first-is (l .phase .reply) f, quiet-holds q))),
   )
 
 -- NO REPLY

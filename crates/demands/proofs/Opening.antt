@@ -8,7 +8,7 @@ use mathlib.Core.List.{List, [], _∷_, _++_, append-nil}
 use mathlib.Core.Path.{_≡_, refl, sym, ap, _∙_, subst}
 use mathlib.Core.Logic.{_↔_, _⊎_, inl, inr, ⊎-elim}
 use native.Mathlib.Omega.{arith}
-use borrow.Author.Tests.{ltb-true, lt-ltb}
+use borrow.Author.Tests.{ltb-true, lt-ltb, ne-eqb}
 use lib.ListN.{length}
 use Rattle.base.specs.Choice.{if_then_else_}
 use Rattle.base.specs.Numbers.{taken}
@@ -40,7 +40,8 @@ use Rattle.demands.specs.Logs.{Log, _▷_, heardIn, numberAfter, takenOf
 use Rattle.demands.specs.Histories.{after, reportsTo, Says, isAmong, Among, Tells}
 use Rattle.demands.specs.Accounts.{heldIn}
 use Rattle.demands.specs.Connecting.{Connects}
-use Rattle.demands.specs.Sessions.{stops, pendingIn, Talk, talkAfter, Session, opens, lasts, inForce, gapBefore, OpensIn, replyAt, Early, Stray, Turns}
+use Rattle.demands.specs.Sessions.{stops, pendingIn, Talk, talkAfter, Session, opens, lasts, inForce, gapBefore, OpensIn}
+use Rattle.demands.specs.Sessions.{replyOnceEnded, replyAt, Early, Stray, Turns}
 use Rattle.demands.specs.Messages.{Speaks, begins, refused, waits, grows, EndsInFrame, ReportsFrame}
 use Rattle.demands.specs.Endings.{AnswersStop}
 use Rattle.listing.specs.Listing.{heldOf}
@@ -127,10 +128,10 @@ module _ (before : Log) (b : Event) (t : Talk) (i : InBytes before) (o : OpensIn
       (λ z. silent-is gap .1 (subst (λ (g : Micros). 20_000 < g .0) (sym (same-gap before b t i (o .session))) z)) (o .alone)
 
   open-left : isOpen (l .phase .state) ≡ true → Left
-  unfolding replyAt
+  unfolding replyAt replyOnceEnded isFirst
   open-left p =
       settled-left (ended-left (l .mark) b (l .phase) (left-by l b) p (open-silent p) not-idled)
-      (rw (lt-ltb 0 (heldIn ours before) (open-holds before p)) refl)
+      (rw (ne-eqb (heldIn ours before) 0 (λ z. omega (arith, z, open-holds before p))) refl)
 
   -- the link's test is the history's
   abbrev StaysOut : Bool
@@ -141,7 +142,7 @@ module _ (before : Log) (b : Event) (t : Talk) (i : InBytes before) (o : OpensIn
 
   none-held : isQuiet (l .phase .state) ≡ true → (c : Bool) → (isFirst (t .reply) && isPassed (inForce t .p2max) (gapBefore (takenOf before) b)) ≡ c
       → replyOf before b t ≡ (if c then Never else t .reply)
-  unfolding replyAt
+  unfolding replyAt replyOnceEnded
   none-held q c h = rw (quiet-holds before b t i (o .session) q, h) refl
 
   quiet-left : isQuiet (l .phase .state) ≡ true → Left

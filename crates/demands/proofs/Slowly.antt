@@ -17,7 +17,7 @@ use Rattle.starts.specs.declared.Start.{Start}
 use Rattle.demands.specs.Logs.{Log, none, _▷_, eventsOf}
 use Rattle.demands.specs.Starts.{Right, sync, keyOne, keyTwo, keyBack, SlowStart, slow, dueSlow, dueFast, isAddress, due}
 use Rattle.demands.proofs.Running.{fallBy, startOn, lastEnd, Starts, Runs, Done}
-use Rattle.demands.proofs.Waking.{Waited, idle-time}
+use Rattle.demands.proofs.Waking.{IdleSince, idle-time}
 use Rattle.demands.proofs.Staged.{at, placeOf}
 use Rattle.demands.proofs.Judging.{Passes, comes-next, on-first, on-next, on-last, way, done-good}
 
@@ -79,7 +79,7 @@ slow-place m a bs k r =
     ∙ place-by a bs (startOn a bs) (way Address SoFar first one-more m a bs k r)
 
 -- ---- and from the bytes to the run
-pub done-slow : (m : Micros) (a : Event) (pair : Pair) (bs : Log) (b : Event) → Waited m a → SlowStart a pair (bs ▷ b)
+pub done-slow : (m : Micros) (a : Event) (pair : Pair) (bs : Log) (b : Event) → IdleSince m a → SlowStart a pair (bs ▷ b)
     → Done m a bs b × (startOn a bs .pair ≡ pair) × (isGood pair ≡ true)
 unfolding roleAt isOpening nextStage onward sumAfter isPairOne isPairTwo isRequestEnd isLast isEnding slowStart
 done-slow m a pair bs b i (slow {s = s} {one = one} {two = two} {back = back} k p1 p2 p3 p4 p5) =

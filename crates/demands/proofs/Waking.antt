@@ -50,11 +50,11 @@ good-low e =
     )
 
 -- ---- so a run starts behind an idle line
--- an event that comes as long after this mark as an address or wake-up needs
-abbrev pub Waited : Micros → Event → Type 0
-Waited mark a = mark .0 + idleTime .0 ≤ a .start .0
+-- since this mark the line was idle as long as an address or wake-up needs
+abbrev pub IdleSince : Micros → Event → Type 0
+IdleSince mark a = mark .0 + idleTime .0 ≤ a .start .0
 
-starts-idle : (k : Kind) (m : Micros) (a : Event) → Starts k m a → Waited m a
+starts-idle : (k : Kind) (m : Micros) (a : Event) → Starts k m a → IdleSince m a
 starts-idle Address m a s = idle-time m (a .start) .0 s
 starts-idle WakeUp m a s = idle-time m (a .start) .0 (s .0)
 starts-idle Byte m a s = absurd s
@@ -62,5 +62,5 @@ starts-idle Tick m a s = absurd s
 starts-idle Drop m a s = absurd s
 starts-idle Other m a s = absurd s
 
-pub runs-idle : (m : Micros) (a : Event) (bs : Log) → Runs m a bs → Waited m a
+pub runs-idle : (m : Micros) (a : Event) (bs : Log) → Runs m a bs → IdleSince m a
 runs-idle m a bs r = starts-idle (a .kind) m a (runs-starts m a bs r)

@@ -7,7 +7,7 @@ use mathlib.Core.Bool.{Bool, true, false, _&&_, _||_}
 use mathlib.Core.List.{List, [], _∷_}
 use mathlib.Core.Path.{_≡_}
 use mathlib.Core.Logic.{_↔_, _⊎_}
-use lib.Dec.{eqb, ltb}
+use lib.Dec.{eqb}
 use lib.ListN.{length, getD}
 use Rattle.base.specs.Choice.{if_then_else_}
 use Rattle.base.specs.Numbers.{taken}
@@ -163,15 +163,17 @@ pub record Reads (m : Machine) (es : Log) (e : Event) (r : Report) : Type 0 wher
 abbrev pub gapBefore : Log → Event → Micros
 gapBefore log b = gapOf (markOf log) (b .start)
 
--- "First reply awaited and P2 max passed: report 6". Nothing is held then: what is held ends before P2 max passes, and "After either, no reply is
--- expected."
-abbrev pub NoReply : Talk → ℕ → Micros → Type 0
-NoReply t held gap = (t .reply ≡ First) × (held ≡ 0) × (isPassed (inForce t .p2max) gap ≡ true)
+-- Time passes first. What was held for more than 20 ms has ended, and "After either, no reply is expected": the reply that may come once it has ended
+unfoldable pub replyOnceEnded : Talk → ℕ → Reply
+replyOnceEnded t held = if eqb held 0 then t .reply else Never
 
--- "Then, connected, no first reply awaited, P3 max passed: report 7 reason 2, down." Where one was awaited, P2 max has passed too, or what was held has
--- ended.
+-- "First reply awaited and P2 max passed: report 6". (What is held ends before P2 max passes.)
+abbrev pub NoReply : Talk → ℕ → Micros → Type 0
+NoReply t held gap = (replyOnceEnded t held ≡ First) × (isPassed (inForce t .p2max) gap ≡ true)
+
+-- "Then, connected, no first reply awaited, P3 max passed: report 7 reason 2, down." Where one was awaited, P2 max has passed too.
 abbrev pub IdleOver : Talk → ℕ → Micros → Type 0
-IdleOver t held gap = (isPassed (inForce t .p3max) gap ≡ true) × (t .reply ≡ First → held ≡ 0 → isPassed (inForce t .p2max) gap ≡ true)
+IdleOver t held gap = (isPassed (inForce t .p3max) gap ≡ true) × (replyOnceEnded t held ≡ First → isPassed (inForce t .p2max) gap ≡ true)
 
 -- ---- the first byte of a message: all of it is said by the events before the byte and their reports, whatever is reported of the byte itself
 -- A BYTE OPENS A MESSAGE, or damage ("First byte of a message"), in the session t of the events before it: it is taken, nothing was held before it or
@@ -183,13 +185,9 @@ pub record OpensIn (m : Machine) (before : Log) (b : Event) (t : Talk) : Type 0 
   pub alone : (heldIn m before ≡ 0) ⊎ (20_000 < gapBefore (takenOf before) b .0)
   pub lasts : Not (IdleOver t (heldIn m before) (gapBefore (takenOf before) b))
 
--- Time passes first. What was held for more than 20 ms has ended, and "After either, no reply is expected"; where nothing was held, a first reply that
--- is awaited as P2 max passes is not awaited any more ("no reply is expected"). The reply that may come behind that, in the session t with so many
--- bytes held:
+-- the reply that may come as the byte does: a first reply that is awaited as P2 max passes is not awaited any more ("no reply is expected")
 unfoldable pub replyAt : Talk → ℕ → Micros → Reply
-replyAt t held gap =
-    if ltb 0 held then Never else
-    if isFirst (t .reply) && isPassed (inForce t .p2max) gap then Never else t .reply
+replyAt t held gap = if isFirst (replyOnceEnded t held) && isPassed (inForce t .p2max) gap then Never else replyOnceEnded t held
 
 -- whether it breaks the windows in force, with this reply that may come
 -- "From the unit, stray (4) unless a first or further reply may come and the gap is at most P2 max"
