@@ -10,7 +10,7 @@ use Rattle.keys.specs.Keys.{goodPair}
 use Rattle.events.specs.declared.Kind.{Kind}
 use Rattle.events.specs.declared.Kind.the-variants.{Address}
 use Rattle.events.specs.declared.Event.{Event}
-use Rattle.starts.specs.Starts.{roleAt, isOpening, isPairOne, isPairTwo, isRequestEnd, isEnding, nextStage, isLast, sumAfter, onward, slowStart}
+use Rattle.starts.specs.Starts.{dueAt, onward, isLast, slowStart}
 use Rattle.starts.specs.declared.Stage.the-variants.{Sync, FirstKey, SecondKey, KeyBack, AddressBack}
 use Rattle.starts.specs.declared.Start.{Start}
 use Rattle.demands.specs.Logs.{Log, none, _▷_, eventsOf}
@@ -38,7 +38,7 @@ first m a k s = s0
 one-more : (a : Event) (bs : Log) (s : Start) (b : Event) → SoFar a bs s → Passes s (fallBy Address (a .start)) (lastEnd a bs) b
     → isLast (s .stage) ≡ false
     → SoFar a (bs ▷ b) (onward s (b .value))
-unfolding roleAt isOpening nextStage onward sumAfter isPairOne isPairTwo isRequestEnd isLast isEnding
+unfolding dueAt onward isLast
 one-more a bs s b s0 f z = s1 (comes-next refl f)
 one-more a bs s b (s1 p1) f z = s2 {one = b} p1 (comes-next refl f)
 one-more a bs s b (s2 p1 p2) f z = s3 {two = b} p1 p2 (comes-next refl f)
@@ -51,7 +51,7 @@ Good a bs s b = a .kind ≡ Address → SlowStart a (s .kb1) (s .kb2) (bs ▷ b)
 
 finish : (a : Event) (bs : Log) (s : Start) (b : Event) → SoFar a bs s → Passes s (fallBy Address (a .start)) (lastEnd a bs) b → isLast (s .stage) ≡ true
     → Good a bs s b
-unfolding roleAt isOpening isLast isEnding
+unfolding dueAt isLast
 finish a bs s b s0 f z k = absurd (false≢true z)
 finish a bs s b (s1 p1) f z k = absurd (false≢true z)
 finish a bs s b (s2 p1 p2) f z k = absurd (false≢true z)
@@ -80,7 +80,7 @@ slow-place m a bs k r =
 -- ---- and from the bytes to the run
 pub done-slow : (m : Micros) (a : Event) (kb1 kb2 : ℕ) (bs : Log) (b : Event) → m .0 + 300_000 ≤ a .start .0 → SlowStart a kb1 kb2 (bs ▷ b)
     → Done m a bs b × (startOn a bs .kb1 ≡ kb1) × (startOn a bs .kb2 ≡ kb2) × (goodPair kb1 kb2 ≡ true)
-unfolding roleAt isOpening nextStage onward sumAfter isPairOne isPairTwo isRequestEnd isLast isEnding slowStart
+unfolding dueAt onward isLast slowStart
 done-slow m a kb1 kb2 bs b i (slow {s = s} {one = one} {two = two} {back = back} k p1 p2 p3 p4 p5) =
     let b1 = none ▷ s in
     let b2 = b1 ▷ one in
