@@ -25,7 +25,7 @@ use Rattle.events.specs.declared.Side.the-variants.{Tester, Unit, Nobody}
 use Rattle.events.specs.declared.Event.{Event}
 use Rattle.starts.specs.Starts.{dueAt, originOf, isReplyFormat, fits, isFrom, isEarly}
 use Rattle.starts.specs.Starts.{judged, isOver, afterFormat, onward, isLast, slowStart, fastStart, noStart, complement}
-use Rattle.talk.specs.Talk.{isNever, isFirst, testerTurn, isStray, isHasty, unitTurn, turnReason, isModeOne, hasExtra, placeAnnounced, headReason, firstReason}
+use Rattle.talk.specs.Talk.{isFirst, testerTurn, isStray, isHasty, unitTurn, turnReason, hasExtra, placeAnnounced, headReason, firstReason}
 use Rattle.talk.specs.Talk.{afterAddresses, partAfterFormat, begun as begunMessage, laterReason, isSum, withSeven, afterData, withData, grown, isExactly}
 use Rattle.talk.specs.Talk.{asksCodes, requestOf, isEffective, codesIn, ifAllowed, windowsFor, windowsAfter, spent, requestAfter, isStopped}
 use Rattle.phases.specs.Phases.{isStarting, isQuiet, isHeld, isOpen, down, starting, connected, talking, holding, damaged, settled, timed, asked, answered, framed}
@@ -184,7 +184,7 @@ unfolding
     isIdle isGoodLow closing leaving isOpen isQuiet isHeld isStarting isSilent sinceOrigin originOf
     dueAt isOver judged isFrom isEarly fits onward isLast fastStart noStart starting down countSum byteSum sameSide isTester
     isUnit marks isReplyFormat afterFormat isFirst isStopped connected setOf goodPair lengthInFormat extraLength noAddresses withAddresses isExtended
-    takesForm isPassed isUnlimited reasonAtFirst firstByte laterByte firstReason turnReason testerTurn unitTurn isStray isHasty isNever headReason isModeOne
+    takesForm isPassed isUnlimited reasonAtFirst firstByte laterByte firstReason turnReason testerTurn unitTurn isStray isHasty headReason
     formatForm placeAnnounced hasExtra begunMessage partAfterFormat afterAddresses laterReason isSum grown withData withSeven afterData holding talking
     framed asked answered timed settled damaged requestOf isExactly asksCodes windowsAfter isEffective windowsFor codesIn ifAllowed decodedOf isAllowed
     windowsBy minOf p2MaxOf p2Half p3MaxOf isBelow spent requestAfter sameWindows lossReason slowStart complement ruleOf heldIn namedIn

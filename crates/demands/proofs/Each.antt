@@ -1,6 +1,6 @@
 -- Each report of an event is one of the eight, with a reason where it has one, at the event's end, and names as many bytes as its number allows.
 -- Assumes nothing.
-use Prim.Native.Nat.{ℕ, _+_, _≤_, _<_}
+use Prim.Native.Nat.{ℕ, _+_, _/_, _≤_, _<_}
 use mathlib.Core.Bool.{Bool, true, false, not, _&&_, _||_, false≢true}
 use mathlib.Core.List.{List, [], _∷_, _++_}
 use mathlib.Core.Path.{_≡_, refl, sym, _∙_, subst}
@@ -28,7 +28,7 @@ use Rattle.events.specs.declared.Side.{Side}
 use Rattle.events.specs.declared.Event.{Event}
 use Rattle.starts.specs.Starts.{fits, isFrom, isEarly, judged, isOver, isLast, onward, slowStart, fastStart}
 use Rattle.starts.specs.declared.Start.{Start}
-use Rattle.talk.specs.Talk.{isFirst, testerTurn, isStray, isHasty, unitTurn, turnReason, isModeOne, placeAnnounced, headReason, firstReason, begun as opened}
+use Rattle.talk.specs.Talk.{isFirst, testerTurn, isStray, isHasty, unitTurn, turnReason, placeAnnounced, headReason, firstReason, begun as opened}
 use Rattle.talk.specs.Talk.{partReason, laterReason, isSum, grown, isStopped}
 use Rattle.talk.specs.declared.Reply.{Reply}
 use Rattle.talk.specs.declared.Part.{Part}
@@ -279,7 +279,7 @@ turn-harms reply w side gap =
 head-harms : (kb1 f : ℕ) → Harms (headReason kb1 f)
 unfolding headReason
 head-harms kb1 f =
-    by-test Harms (isModeOne (formatForm f)) {x = modeOne} (λ _. harms modeOne (omega arith) (omega arith))
+    by-test Harms (eqb (f / 64) 1) {x = modeOne} (λ _. harms modeOne (omega arith) (omega arith))
     (λ _. by-test Harms (not (takesForm kb1 (formatForm f))) {x = wrongForm} (λ _. harms wrongForm (omega arith) (omega arith))
     (λ _. by-test Harms (placeAnnounced kb1 f) {x = noReason} {y = wrongLength} (λ _. harmless) (λ _. harms wrongLength (omega arith) (omega arith))))
 
