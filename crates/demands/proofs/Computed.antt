@@ -23,9 +23,9 @@ use Rattle.events.specs.declared.Kind.the-variants.{WakeUp, Tick, Other}
 use Rattle.events.specs.declared.Side.{Side}
 use Rattle.events.specs.declared.Side.the-variants.{Tester, Unit, Nobody}
 use Rattle.events.specs.declared.Event.{Event}
-use Rattle.starts.specs.Starts.{dueAt, roleAt, isOpening, isPairOne, isPairTwo, isRequestEnd, isEnding, originOf, isReplyFormat, fits, isFrom, isEarly}
-use Rattle.starts.specs.Starts.{judged, isOver, afterFormat, nextStage, isLast, sumAfter, onward, slowStart, fastStart, noStart, complement}
-use Rattle.talk.specs.Talk.{isNever, isFirst, testerTurn, isStray, isHasty, unitTurn, turnReason, isModeOne, hasExtra, placeAnnounced, headReason, firstReason}
+use Rattle.starts.specs.Starts.{dueAt, originOf, isReplyFormat, fits, isFrom, isEarly}
+use Rattle.starts.specs.Starts.{judged, isOver, afterFormat, onward, isLast, slowStart, fastStart, noStart, complement}
+use Rattle.talk.specs.Talk.{isFirst, testerTurn, isStray, isHasty, unitTurn, turnReason, hasExtra, placeAnnounced, headReason, firstReason}
 use Rattle.talk.specs.Talk.{afterAddresses, partAfterFormat, begun as begunMessage, laterReason, isSum, withSeven, afterData, withData, grown, isExactly}
 use Rattle.talk.specs.Talk.{asksCodes, requestOf, isEffective, codesIn, ifAllowed, windowsFor, windowsAfter, spent, requestAfter, isStopped}
 use Rattle.phases.specs.Phases.{isStarting, isQuiet, isHeld, isOpen, down, starting, connected, talking, holding, damaged, settled, timed, asked, answered, framed}
@@ -181,10 +181,10 @@ unfolding
     after reportsOf isAmong listed reportsIn takenOf numberAfter clockOf countOf heardOf stepOf answerOf countsAfter numberOf takenBy refusedBy refusal isUnknown isOther isByte isNobody
     isTooLate isOutOfOrder isFull handled acted begun passed shut byteHeard linkAfter markAfter freshLink zeroCounts countedEvent countedByte countedAll
     countedOne moved told reportOf appended namesBytes afterSilence afterP2 afterP3 afterWindow afterByte afterStop startByte startingFast startingSlow
-    isIdle isGoodLow closing leaving isOpen isQuiet isHeld isStarting isSilent sinceOrigin originOf roleAt isOpening isPairOne isPairTwo isRequestEnd
-    isEnding dueAt isOver judged isFrom isEarly fits nextStage isLast sumAfter onward fastStart noStart starting down countSum byteSum sameSide isTester
+    isIdle isGoodLow closing leaving isOpen isQuiet isHeld isStarting isSilent sinceOrigin originOf
+    dueAt isOver judged isFrom isEarly fits onward isLast fastStart noStart starting down countSum byteSum sameSide isTester
     isUnit marks isReplyFormat afterFormat isFirst isStopped connected setOf goodPair lengthInFormat extraLength noAddresses withAddresses isExtended
-    takesForm isPassed isUnlimited reasonAtFirst firstByte laterByte firstReason turnReason testerTurn unitTurn isStray isHasty isNever headReason isModeOne
+    takesForm isPassed isUnlimited reasonAtFirst firstByte laterByte firstReason turnReason testerTurn unitTurn isStray isHasty headReason
     formatForm placeAnnounced hasExtra begunMessage partAfterFormat afterAddresses laterReason isSum grown withData withSeven afterData holding talking
     framed asked answered timed settled damaged requestOf isExactly asksCodes windowsAfter isEffective windowsFor codesIn ifAllowed decodedOf isAllowed
     windowsBy minOf p2MaxOf p2Half p3MaxOf isBelow spent requestAfter sameWindows lossReason slowStart complement ruleOf heldIn namedIn

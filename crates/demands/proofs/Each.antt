@@ -2,7 +2,7 @@
 -- The bytes follow from what each state holds (Holding.antt); the reason is the rule's own, or that of a byte, or that of the damage being skipped, which
 -- every rule keeps (`rule-fits`).
 -- Assumes nothing.
-use Prim.Native.Nat.{ℕ, _≤_, _<_}
+use Prim.Native.Nat.{ℕ, _/_, _≤_, _<_}
 use mathlib.Core.Bool.{Bool, true, false, not, _||_, false≢true}
 use mathlib.Core.List.{List, _++_}
 use mathlib.Core.Path.{_≡_, refl, sym, ap, _∙_, subst}
@@ -22,7 +22,7 @@ use Rattle.frame.specs.Layout.{formatForm}
 use Rattle.events.specs.Events.{isTester, sameSide}
 use Rattle.events.specs.declared.Side.{Side}
 use Rattle.events.specs.declared.Event.{Event}
-use Rattle.talk.specs.Talk.{isFirst, testerTurn, isStray, isHasty, unitTurn, turnReason, isModeOne, placeAnnounced, headReason, firstReason}
+use Rattle.talk.specs.Talk.{isFirst, testerTurn, isStray, isHasty, unitTurn, turnReason, placeAnnounced, headReason, firstReason}
 use Rattle.talk.specs.Talk.{partReason, laterReason}
 use Rattle.talk.specs.declared.Reply.{Reply}
 use Rattle.talk.specs.declared.Part.{Part}
@@ -126,7 +126,7 @@ turn-most reply w side gap =
 head-most : (kb1 f : ℕ) → headReason kb1 f ≤ 9
 unfolding headReason
 head-most kb1 f =
-    pick (isModeOne (formatForm f)) (omega arith)
+    pick (eqb (f / 64) 1) (omega arith)
     (pick (not (takesForm kb1 (formatForm f))) (omega arith) (pick (placeAnnounced kb1 f) (omega arith) (omega arith)))
 
 first-most : (p : Phase) (side : Side) (v : ℕ) (gap : Micros) → reasonAtFirst p side v gap ≤ 9

@@ -19,7 +19,7 @@ use Rattle.events.specs.Events.{isByte, sameSide}
 use Rattle.events.specs.declared.Kind.{Kind}
 use Rattle.events.specs.declared.Kind.the-variants.{Address, WakeUp, Byte, Tick, Drop, Other}
 use Rattle.events.specs.declared.Event.{Event}
-use Rattle.starts.specs.Starts.{dueAt, roleAt, isOpening, originOf, fits, isFrom, isEarly, judged, isOver, isLast, afterFormat, nextStage, onward, slowStart, fastStart}
+use Rattle.starts.specs.Starts.{dueAt, originOf, fits, isFrom, isEarly, judged, isOver, afterFormat, onwardAt, onward, isLast, slowStart, fastStart}
 use Rattle.starts.specs.declared.Stage.{Stage}
 use Rattle.starts.specs.declared.Stage.the-variants.{Sync, FirstKey, SecondKey, KeyBack, AddressBack}
 use Rattle.starts.specs.declared.Stage.the-variants.{AskFormat, AskTarget, AskSource, AskService, AskSum}
@@ -79,43 +79,43 @@ due-at m a bs s r =
     subst (Means (startOn a bs)) (sym (⊎-elim (λ k. slow-place m a bs k r) (λ k. fast-place m a bs k r) s)) (means (startOn a bs))
 
 -- .. timed from the fall or the end of the byte before: no byte leads to the tester's first one
-after-format : (v : ℕ) → isOpening (roleAt (afterFormat v)) ≡ false
-unfolding afterFormat roleAt isOpening
+after-format : (v : ℕ) → dueAt (afterFormat v) .opening ≡ false
+unfolding afterFormat dueAt
 after-format v =
-    by-test (λ (x : Stage). isOpening (roleAt x) ≡ false) (eqb v 0x83) {x = Target} (λ _. refl)
-    (λ _. by-test (λ (x : Stage). isOpening (roleAt x) ≡ false) (eqb v 0x80) {x = LongTarget} (λ _. refl)
-    (λ _. by-test (λ (x : Stage). isOpening (roleAt x) ≡ false) (eqb v 0x00) {x = Length} {y = Service} (λ _. refl) (λ _. refl)))
+    by-test (λ (x : Stage). dueAt x .opening ≡ false) (eqb v 0x83) {x = Target} (λ _. refl)
+    (λ _. by-test (λ (x : Stage). dueAt x .opening ≡ false) (eqb v 0x80) {x = LongTarget} (λ _. refl)
+    (λ _. by-test (λ (x : Stage). dueAt x .opening ≡ false) (eqb v 0x00) {x = Length} {y = Service} (λ _. refl) (λ _. refl)))
 
-opens-none : (st : Stage) (v : ℕ) → isOpening (roleAt (nextStage st v)) ≡ false
-unfolding nextStage roleAt isOpening
-opens-none Sync v = refl
-opens-none FirstKey v = refl
-opens-none SecondKey v = refl
-opens-none KeyBack v = refl
-opens-none AddressBack v = refl
-opens-none AskFormat v = refl
-opens-none AskTarget v = refl
-opens-none AskSource v = refl
-opens-none AskService v = refl
-opens-none AskSum v = refl
-opens-none Format v = after-format v
-opens-none Target v = refl
-opens-none Source v = refl
-opens-none LongTarget v = refl
-opens-none LongSource v = refl
-opens-none Length v = refl
-opens-none Service v = refl
-opens-none KeyOne v = refl
-opens-none KeyTwo v = refl
-opens-none Sum v = refl
+opens-none : (stage : Stage) (s : Start) (v : ℕ) → dueAt (onwardAt stage s v .stage) .opening ≡ false
+unfolding dueAt
+opens-none Sync s v = refl
+opens-none FirstKey s v = refl
+opens-none SecondKey s v = refl
+opens-none KeyBack s v = refl
+opens-none AddressBack s v = refl
+opens-none AskFormat s v = refl
+opens-none AskTarget s v = refl
+opens-none AskSource s v = refl
+opens-none AskService s v = refl
+opens-none AskSum s v = refl
+opens-none Format s v = after-format v
+opens-none Target s v = refl
+opens-none Source s v = refl
+opens-none LongTarget s v = refl
+opens-none LongSource s v = refl
+opens-none Length s v = refl
+opens-none Service s v = refl
+opens-none KeyOne s v = refl
+opens-none KeyTwo s v = refl
+opens-none Sum s v = refl
 
 from-same : (a : Event) (bs : Log) → Starter a → originOf (startOn a bs .stage) (fallBy (a .kind) (a .start)) (lastEnd a bs) ≡ dueFrom a bs
-unfolding originOf startOn dueFrom isAddress slowStart fastStart roleAt isOpening onward
+unfolding originOf startOn dueFrom isAddress slowStart fastStart dueAt onward
 from-same a none (inl k) =
     ap (λ (x : Kind). originOf (firstBy x (a .value) .stage) (fallBy x (a .start)) (a .end)) k ∙ sym (ap (λ (x : Kind). if isAddress x then a .end else a .start) k)
 from-same a none (inr k) =
     ap (λ (x : Kind). originOf (firstBy x (a .value) .stage) (fallBy x (a .start)) (a .end)) k ∙ sym (ap (λ (x : Kind). if isAddress x then a .end else a .start) k)
-from-same a (bs ▷ b) s = rw (opens-none (startOn a bs .stage) (b .value)) refl
+from-same a (bs ▷ b) s = rw (opens-none (startOn a bs .stage) (startOn a bs) (b .value)) refl
 
 -- a wake-up falls before it rises
 starts-first : (k : Kind) (m : Micros) (a : Event) → a .kind ≡ k → Starts k m a → dueFrom a none .0 ≤ a .end .0

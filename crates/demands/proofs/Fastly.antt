@@ -17,8 +17,7 @@ use Rattle.events.specs.declared.Kind.{Kind}
 use Rattle.events.specs.declared.Kind.the-variants.{WakeUp}
 use Rattle.events.specs.declared.Side.the-variants.{Tester, Unit}
 use Rattle.events.specs.declared.Event.{Event}
-use Rattle.starts.specs.Starts.{roleAt, isOpening, isPairOne, isPairTwo, isRequestEnd, isEnding, originOf}
-use Rattle.starts.specs.Starts.{afterFormat, nextStage, isLast, sumAfter, onward, fastStart}
+use Rattle.starts.specs.Starts.{dueAt, originOf, afterFormat, onward, isLast, fastStart}
 use Rattle.starts.specs.declared.Stage.{Stage}
 use Rattle.starts.specs.declared.Stage.the-variants.{AskFormat, AskTarget, AskSource, AskService, AskSum}
 use Rattle.starts.specs.declared.Stage.the-variants.{Format, Target, Source, LongTarget, LongSource, Length, Service, KeyOne, KeyTwo, Sum}
@@ -116,7 +115,7 @@ first m w k s = q0 k (good-low w .0 (s .1))
 one-more : (w : Event) (bs : Log) (s : Start) (b : Event) → SoFar w bs s → Passes s (fallBy WakeUp (w .start)) (lastEnd w bs) b
     → isLast (s .stage) ≡ false
     → SoFar w (bs ▷ b) (onward s (b .value))
-unfolding originOf roleAt isOpening nextStage onward sumAfter isPairOne isPairTwo isRequestEnd isLast isEnding byteSum
+unfolding originOf dueAt onward isLast byteSum
 one-more w bs s b (q0 k l) g z = q1 {f = b} k l (comes s (w .start) (w .end) b g (omega (arith, g .later, l .0))) (from-zero (b .value))
 one-more w bs s b (q1 {f = f} {x = x} k l p1 e) g z = q2 {t = b} k l p1 (comes-next refl g) (more x (f .value) (b .value) e)
 one-more w bs s b (q2 {f = f} {t = t} {x = x} k l p1 p2 e) g z = q3 {s = b} k l p1 p2 (comes-next refl g) (more x (f .value + t .value) (b .value) e)
@@ -144,7 +143,7 @@ Good w bs s b = FastStart w (s .pair) (bs ▷ b)
 
 finish : (w : Event) (bs : Log) (s : Start) (b : Event) → SoFar w bs s → Passes s (fallBy WakeUp (w .start)) (lastEnd w bs) b → isLast (s .stage) ≡ true
     → Good w bs s b
-unfolding roleAt isOpening isLast isEnding
+unfolding dueAt isLast
 finish w bs s b (q0 k l) g z = absurd (false≢true z)
 finish w bs s b (q1 k l p1 e) g z = absurd (false≢true z)
 finish w bs s b (q2 k l p1 p2 e) g z = absurd (false≢true z)
@@ -209,14 +208,14 @@ fast-place m w bs k r =
 -- ---- and from the bytes to the run
 -- the tester's first byte, which is timed from the fall
 opens-passes : (w f : Event) → w .kind ≡ WakeUp → Low w → Right asks (w .start) f → Passes fastStart (fallBy (w .kind) (w .start)) (w .end) f
-unfolding originOf roleAt isOpening fastStart
+unfolding originOf dueAt fastStart
 opens-passes w f k l p =
     subst (λ (x : Kind). Passes fastStart (fallBy x (w .start)) (w .end) f) (sym k)
     (right-of fastStart (w .start) (w .end) f (omega (arith, l .1, p .1 .0)) p)
 
 -- the request
 on-request : (m : Micros) (w : Event) (bs : Log) (c : Event) → IdleSince m w → Request w bs c → On m w bs (at 0 Format 0 0 0)
-unfolding roleAt isOpening nextStage onward sumAfter isPairOne isPairTwo isRequestEnd isLast isEnding fastStart byteSum
+unfolding dueAt onward isLast fastStart byteSum
 on-request m w bs c i (request {f = f} {t = t} {s = s} {d = d} k l p1 p2 p3 p4 p5) =
     let b1 = none ▷ f in
     let b2 = b1 ▷ t in
@@ -245,7 +244,7 @@ module _ (m : Micros) (w : Event) (bs : Log) (c f : Event) (i : IdleSince m w) (
   x1 = (0 + f .value) % 256
 
   on-format : (stage : Stage) → afterFormat (f .value) ≡ stage → On m w (bs ▷ f) (at 0 stage x1 0 0)
-  unfolding roleAt isOpening nextStage onward sumAfter isPairOne isPairTwo isRequestEnd isLast isEnding byteSum
+  unfolding dueAt onward isLast byteSum
   on-format stage e =
       subst (λ (j : Stage). On m w (bs ▷ f) (at 0 j x1 0 0)) e
       (on-next m w bs (at 0 Format 0 0 0) f (c .end) (request-end r) refl (on-request m w bs c i r) p refl)
@@ -261,12 +260,12 @@ module _ (m : Micros) (w : Event) (bs : Log) (c f : Event) (i : IdleSince m w) (
     sum3 = more x2 (f .value + t .value) (s .value) (more x1 (f .value) (t .value) (from-zero (f .value)))
 
     on-addresses : On m w (bs ▷ f) (at 0 Target x1 0 0) → On m w (bs ▷ f ▷ t ▷ s) (at 0 Service x3 0 0)
-    unfolding roleAt isOpening nextStage onward sumAfter isPairOne isPairTwo isRequestEnd isLast isEnding byteSum
+    unfolding dueAt onward isLast byteSum
     on-addresses o =
         on-next m w (bs ▷ f ▷ t) (at 0 Source x2 0 0) s (t .end) refl refl (on-next m w (bs ▷ f) (at 0 Target x1 0 0) t (f .end) refl refl o p2 refl) p3 refl
 
     on-long : On m w (bs ▷ f) (at 0 LongTarget x1 0 0) → On m w (bs ▷ f ▷ t ▷ s) (at 0 Length x3 0 0)
-    unfolding roleAt isOpening nextStage onward sumAfter isPairOne isPairTwo isRequestEnd isLast isEnding byteSum
+    unfolding dueAt onward isLast byteSum
     on-long o =
         on-next m w (bs ▷ f ▷ t) (at 0 LongSource x2 0 0) s (t .end) refl refl
         (on-next m w (bs ▷ f) (at 0 LongTarget x1 0 0) t (f .end) refl refl o p2 refl) p3 refl
@@ -274,7 +273,7 @@ module _ (m : Micros) (w : Event) (bs : Log) (c f : Event) (i : IdleSince m w) (
 -- the length byte
 on-length : (m : Micros) (w : Event) (bs : Log) (y len : Event) (x n : ℕ) → On m w (bs ▷ y) (at 0 Length x 0 0)
     → Right (next Unit (only 3)) (y .end) len → x ≡ n % 256 → Headed m w (bs ▷ y ▷ len) (n + len .value)
-unfolding roleAt isOpening nextStage onward sumAfter isPairOne isPairTwo isRequestEnd isLast isEnding byteSum
+unfolding dueAt onward isLast byteSum
 on-length m w bs y len x n o p e = record {
   sum = (x + len .value) % 256;
   on = on-next m w (bs ▷ y) (at 0 Length x 0 0) len (y .end) refl refl o p refl;
@@ -301,7 +300,7 @@ on-header m w bs h n i (addressed-long {bs = rq} {c = c} {f = f} {t = t} {s = s}
 
 pub done-fast : (m : Micros) (w : Event) (pair : Pair) (bs : Log) (b : Event) → IdleSince m w → FastStart w pair (bs ▷ b)
     → Done m w bs b × (startOn w bs .pair ≡ pair) × (isGood pair ≡ true)
-unfolding roleAt isOpening nextStage onward sumAfter isPairOne isPairTwo isRequestEnd isLast isEnding byteSum
+unfolding dueAt onward isLast byteSum
 done-fast m w pair bs b i (fast {bs = hs} {h = h} {service = service} {one = one} {two = two} {n = n} hd p1 p2 p3 p4) =
     let H = on-header m w hs h n i hd in
     let x = H .sum in

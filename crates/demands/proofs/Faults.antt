@@ -23,7 +23,7 @@ use Rattle.frame.proofs.Lists.{total-append}
 use Rattle.events.specs.Events.{sameSide}
 use Rattle.events.specs.declared.Side.{Side}
 use Rattle.events.specs.declared.Event.{Event}
-use Rattle.talk.specs.Talk.{isModeOne, hasExtra, placeAnnounced, headReason, afterAddresses, partAfterFormat, begun, partReason, laterReason}
+use Rattle.talk.specs.Talk.{hasExtra, placeAnnounced, headReason, afterAddresses, partAfterFormat, begun, partReason, laterReason}
 use Rattle.talk.specs.Talk.{afterData, withData, grownAt, grown}
 use Rattle.talk.specs.declared.Part.{Part}
 use Rattle.talk.specs.declared.Part.the-variants.{Target, Source, Length, Data, Sum}
@@ -51,13 +51,13 @@ functional-fault true false k = refl
 functional-fault false x k = refl
 
 form-fault : (kb1 m k : ℕ) (a b c : Bool) → eqb m 0 ≡ a → eqb m 1 ≡ b → eqb m 2 ≡ c
-    → (if isModeOne (if a then Plain else if b then Foreign else if c then Physical else Functional) then modeOne else
+    → (if b then modeOne else
     if not (takesForm kb1 (if a then Plain else if b then Foreign else if c then Physical else Functional)) then wrongForm else k)
     ≡ (if b then modeOne else
     if a && not (noAddresses kb1) then wrongForm else
     if leb 2 m && not (withAddresses kb1) then wrongForm else
     if leb 3 m && isExtended kb1 then wrongForm else k)
-unfolding isModeOne takesForm
+unfolding takesForm
 form-fault kb1 m k true true c ea eb ec = absurd (omega (arith, eqb-true m 0 ea, eqb-true m 1 eb))
 form-fault kb1 m k true false c ea eb ec = let e = eqb-true m 0 ea in rw (lt-leb 2 m (omega arith), lt-leb 3 m (omega arith))
 form-fault kb1 m k false true c ea eb ec = refl

@@ -17,7 +17,7 @@ use Rattle.events.specs.declared.Kind.{Kind}
 use Rattle.events.specs.declared.Side.{Side}
 use Rattle.events.specs.declared.Side.the-variants.{Tester, Unit, Nobody}
 use Rattle.events.specs.declared.Event.{Event}
-use Rattle.starts.specs.Starts.{dueAt, roleAt, isOpening, originOf, fits, isFrom, isEarly, judged, isOver, isLast, onward}
+use Rattle.starts.specs.Starts.{dueAt, originOf, fits, isFrom, isEarly, judged, isOver, isLast, onward}
 use Rattle.starts.specs.declared.Start.{Start}
 use Rattle.phases.specs.Phases.{starting}
 use Rattle.moves.specs.Moves.{sinceOrigin}
@@ -96,7 +96,7 @@ module _ (s : Start) (fall mark : Micros) (b : Event) where
       }
 
 -- timed from the mark, as all bytes are but the first of a fast start
-module _ {s : Start} {fall mark : Micros} {b : Event} (timed : isOpening (roleAt (s .stage)) ≡ false) where
+module _ {s : Start} {fall mark : Micros} {b : Event} (timed : dueAt (s .stage) .opening ≡ false) where
   pub comes-next : Passes s fall mark b → Right (placeOf s) mark b
   unfolding originOf
   comes-next f = rw timed at (comes s fall mark b f (rw timed (f .later)))
@@ -146,7 +146,7 @@ module _ (m : Micros) (a : Event) (bs : Log) (s : Start) (b : Event) (o : On m a
 
 -- the same of a byte that is right behind the mark
 module _ (m : Micros) (a : Event) (bs : Log) (s : Start) (b : Event) (mark : Micros) (end : lastEnd a bs ≡ mark)
-    (timed : isOpening (roleAt (s .stage)) ≡ false) (o : On m a bs s) (c : Right (placeOf s) mark b) where
+    (timed : dueAt (s .stage) .opening ≡ false) (o : On m a bs s) (c : Right (placeOf s) mark b) where
   passes-next : Passes s (fallBy (a .kind) (a .start)) (lastEnd a bs) b
   passes-next = subst (λ (x : Micros). Passes s (fallBy (a .kind) (a .start)) x b) (sym end) (right-next timed c)
 

@@ -1,7 +1,7 @@
 -- The first byte of a message gets the reason 3 or 4 by the link's rules exactly if it is early or stray in document 01's words; no other rule for the
 -- bytes of a message gives these reasons.
 -- Assumes nothing.
-use Prim.Native.Nat.{ℕ}
+use Prim.Native.Nat.{ℕ, _/_}
 use mathlib.Core.Bool.{Bool, true, false, not, _&&_, _||_, false≢true, or-true}
 use mathlib.Core.Path.{_≡_, refl, sym, _∙_}
 use mathlib.Core.Logic.{_↔_, _⊎_, inl, inr, ⊎-elim}
@@ -24,7 +24,7 @@ use Rattle.events.specs.declared.Kind.the-variants.{Byte, Other}
 use Rattle.events.specs.declared.Side.{Side}
 use Rattle.events.specs.declared.Side.the-variants.{Tester, Unit, Nobody}
 use Rattle.events.specs.declared.Event.{Event}
-use Rattle.talk.specs.Talk.{isNever, isFirst, testerTurn, isStray, isHasty, unitTurn, turnReason, isModeOne, placeAnnounced, headReason}
+use Rattle.talk.specs.Talk.{isFirst, testerTurn, isStray, isHasty, unitTurn, turnReason, placeAnnounced, headReason}
 use Rattle.talk.specs.Talk.{firstReason, partReason, laterReason}
 use Rattle.talk.specs.declared.Reply.{Reply}
 use Rattle.talk.specs.declared.Reply.the-variants.{Never, First, Further}
@@ -53,11 +53,11 @@ first-is Never e = absurd (false≢true e)
 first-is First e = refl
 first-is Further e = absurd (false≢true e)
 
-never-is : (reply : Reply) → isNever reply ≡ true → reply ≡ Never
-unfolding isNever
-never-is Never e = refl
-never-is First e = absurd (false≢true e)
-never-is Further e = absurd (false≢true e)
+stray-by : (reply : Reply) (w : Windows) (gap : Micros) → (isStray reply w gap ≡ true) ↔ ((reply ≡ Never) ⊎ (isPassed (w .p2max) gap ≡ true))
+unfolding isStray
+stray-by Never w gap = (λ _. inl refl, λ _. refl)
+stray-by First w gap = (λ p. inr p, ⊎-elim (λ n. cc) (λ p. p))
+stray-by Further w gap = (λ p. inr p, ⊎-elim (λ n. cc) (λ p. p))
 
 pub same-is : (a b : Side) → sameSide a b ≡ true → a ≡ b
 unfolding sameSide isTester isUnit isNobody
@@ -115,11 +115,7 @@ module _ (t : Talk) (gap : Micros) (b : Event) where
 
   -- ---- from the unit
   stray-is : (isStray (t .reply) (inForce t) gap ≡ true) ↔ ((t .reply ≡ Never) ⊎ (isPassed (inForce t .p2max) gap ≡ true))
-  unfolding isStray isNever
-  stray-is = (
-    λ e. ⊎-elim (λ n. inl (never-is (t .reply) n)) (λ p. inr p) (or-split (isNever (t .reply)) _ e),
-    ⊎-elim (λ n. rw n) (λ p. rw (p, or-true (isNever (t .reply)))),
-  )
+  stray-is = stray-by (t .reply) (inForce t) gap
 
   unit-stray : b .side ≡ Unit → (unitTurn (t .reply) (inForce t) gap ≡ stray) ↔ Stray t (t .reply) gap b
   unfolding unitTurn
@@ -173,7 +169,7 @@ Elsewhere reason = (reason ≡ early → ⊥) × (reason ≡ stray → ⊥)
 head-elsewhere : (kb1 f : ℕ) → Elsewhere (headReason kb1 f)
 unfolding headReason
 head-elsewhere kb1 f =
-    by-test Elsewhere (isModeOne (formatForm f)) {x = modeOne} (λ _. (λ z. omega arith, λ z. omega arith))
+    by-test Elsewhere (eqb (f / 64) 1) {x = modeOne} (λ _. (λ z. omega arith, λ z. omega arith))
     (λ _. by-test Elsewhere (not (takesForm kb1 (formatForm f))) {x = wrongForm} (λ _. (λ z. omega arith, λ z. omega arith))
     (λ _. by-test Elsewhere (placeAnnounced kb1 f) {x = noReason} {y = wrongLength} (λ _. (λ z. omega arith, λ z. omega arith))
     (λ _. (λ z. omega arith, λ z. omega arith))))

@@ -11,7 +11,7 @@ use Rattle.keys.specs.declared.Pair.{Pair}
 use Rattle.events.specs.declared.Kind.{Kind}
 use Rattle.events.specs.declared.Kind.the-variants.{Address}
 use Rattle.events.specs.declared.Event.{Event}
-use Rattle.starts.specs.Starts.{roleAt, isOpening, isPairOne, isPairTwo, isRequestEnd, isEnding, nextStage, isLast, sumAfter, onward, slowStart}
+use Rattle.starts.specs.Starts.{dueAt, onward, isLast, slowStart}
 use Rattle.starts.specs.declared.Stage.the-variants.{Sync, FirstKey, SecondKey, KeyBack, AddressBack}
 use Rattle.starts.specs.declared.Start.{Start}
 use Rattle.demands.specs.Logs.{Log, none, _▷_, eventsOf}
@@ -39,7 +39,7 @@ first m a k s = s0
 one-more : (a : Event) (bs : Log) (s : Start) (b : Event) → SoFar a bs s → Passes s (fallBy Address (a .start)) (lastEnd a bs) b
     → isLast (s .stage) ≡ false
     → SoFar a (bs ▷ b) (onward s (b .value))
-unfolding roleAt isOpening nextStage onward sumAfter isPairOne isPairTwo isRequestEnd isLast isEnding
+unfolding dueAt onward isLast
 one-more a bs s b s0 f z = s1 (comes-next refl f)
 one-more a bs s b (s1 p1) f z = s2 {one = b} p1 (comes-next refl f)
 one-more a bs s b (s2 p1 p2) f z = s3 {two = b} p1 p2 (comes-next refl f)
@@ -52,7 +52,7 @@ Good a bs s b = a .kind ≡ Address → SlowStart a (s .pair) (bs ▷ b)
 
 finish : (a : Event) (bs : Log) (s : Start) (b : Event) → SoFar a bs s → Passes s (fallBy Address (a .start)) (lastEnd a bs) b → isLast (s .stage) ≡ true
     → Good a bs s b
-unfolding roleAt isOpening isLast isEnding
+unfolding dueAt isLast
 finish a bs s b s0 f z k = absurd (false≢true z)
 finish a bs s b (s1 p1) f z k = absurd (false≢true z)
 finish a bs s b (s2 p1 p2) f z k = absurd (false≢true z)
@@ -81,7 +81,7 @@ slow-place m a bs k r =
 -- ---- and from the bytes to the run
 pub done-slow : (m : Micros) (a : Event) (pair : Pair) (bs : Log) (b : Event) → IdleSince m a → SlowStart a pair (bs ▷ b)
     → Done m a bs b × (startOn a bs .pair ≡ pair) × (isGood pair ≡ true)
-unfolding roleAt isOpening nextStage onward sumAfter isPairOne isPairTwo isRequestEnd isLast isEnding slowStart
+unfolding dueAt onward isLast slowStart
 done-slow m a pair bs b i (slow {s = s} {one = one} {two = two} {back = back} k p1 p2 p3 p4 p5) =
     let b1 = none ▷ s in
     let b2 = b1 ▷ one in

@@ -9,10 +9,11 @@ use mathlib.Core.Path.{_≡_, refl, ap}
 use lib.Dec.{eqb}
 use borrow.Author.Tests.{eqb-true, eq-eqb}
 use Rattle.base.proofs.Tests.{and-split, or-split}
+use Rattle.units.specs.Units.{micros}
 use Rattle.keys.specs.Keys.{pairOf, isGood}
 use Rattle.keys.specs.declared.Pair.{Pair}
 use Rattle.events.specs.declared.Side.the-variants.{Tester, Unit}
-use Rattle.starts.specs.Starts.{due as dueBy, dueAt, roleAt, isEnding, complement, isReplyFormat, fits, isLast}
+use Rattle.starts.specs.Starts.{dueAt, complement, isReplyFormat, fits, isLast}
 use Rattle.starts.specs.declared.Stage.{Stage}
 use Rattle.starts.specs.declared.Stage.the-variants.{Sync, FirstKey, SecondKey, KeyBack, AddressBack}
 use Rattle.starts.specs.declared.Stage.the-variants.{AskFormat, AskTarget, AskSource, AskService, AskSum}
@@ -91,32 +92,40 @@ sum-fits x pair v = (
 )
 
 -- ---- the stages, one by one
-stands : {s : Start} {p : Place} → dueAt (s .stage) ≡ dueBy (p .side) (p .earliest) (p .latest) → isLast (s .stage) ≡ p .last
+stands : {s : Start} {p : Place} {o : Bool}
+    → dueAt (s .stage) ≡ record { earliest = micros (p .earliest); latest = micros (p .latest); side = p .side; opening = o; last = p .last }
     → ((v : ℕ) → (fits s v ≡ true) ↔ Fits (p .value) v) → Means s p
-stands d l v = record { side = ap (λ x. x .side) d; earliest = ap (λ x. x .earliest .0) d; latest = ap (λ x. x .latest .0) d; value = v; last = l }
+unfolding isLast
+stands d v = record {
+  side = ap (λ x. x .side) d;
+  earliest = ap (λ x. x .earliest .0) d;
+  latest = ap (λ x. x .latest .0) d;
+  value = v;
+  last = ap (λ x. x .last) d;
+}
 
 means-at : (stage : Stage) (address sum kb1 kb2 : ℕ) → Means (at address stage sum kb1 kb2) (placeOf (at address stage sum kb1 kb2))
-unfolding dueAt fits complement isLast roleAt isEnding
-means-at Sync address sum kb1 kb2 = stands refl refl (only-fits 0x55)
-means-at FirstKey address sum kb1 kb2 = stands refl refl any-fits
-means-at SecondKey address sum kb1 kb2 = stands refl refl (λ v. (λ g. g, λ g. g))
-means-at KeyBack address sum kb1 kb2 = stands refl refl (only-fits _)
-means-at AddressBack address sum kb1 kb2 = stands refl refl (only-fits _)
-means-at AskFormat address sum kb1 kb2 = stands refl refl (λ v. one-fits 0x81 _ v _ (last-fits 0xC1 v))
-means-at AskTarget address sum kb1 kb2 = stands refl refl any-fits
-means-at AskSource address sum kb1 kb2 = stands refl refl any-fits
-means-at AskService address sum kb1 kb2 = stands refl refl (only-fits 0x81)
-means-at AskSum address sum kb1 kb2 = stands refl refl (only-fits sum)
-means-at Format address sum kb1 kb2 = stands refl refl format-fits
-means-at Target address sum kb1 kb2 = stands refl refl any-fits
-means-at Source address sum kb1 kb2 = stands refl refl any-fits
-means-at LongTarget address sum kb1 kb2 = stands refl refl any-fits
-means-at LongSource address sum kb1 kb2 = stands refl refl any-fits
-means-at Length address sum kb1 kb2 = stands refl refl (only-fits 3)
-means-at Service address sum kb1 kb2 = stands refl refl (only-fits 0xC1)
-means-at KeyOne address sum kb1 kb2 = stands refl refl any-fits
-means-at KeyTwo address sum kb1 kb2 = stands refl refl any-fits
-means-at Sum address sum kb1 kb2 = stands refl refl (sum-fits sum (pairOf kb1 kb2))
+unfolding dueAt fits complement
+means-at Sync address sum kb1 kb2 = stands refl (only-fits 0x55)
+means-at FirstKey address sum kb1 kb2 = stands refl any-fits
+means-at SecondKey address sum kb1 kb2 = stands refl (λ v. (λ g. g, λ g. g))
+means-at KeyBack address sum kb1 kb2 = stands refl (only-fits _)
+means-at AddressBack address sum kb1 kb2 = stands refl (only-fits _)
+means-at AskFormat address sum kb1 kb2 = stands refl (λ v. one-fits 0x81 _ v _ (last-fits 0xC1 v))
+means-at AskTarget address sum kb1 kb2 = stands refl any-fits
+means-at AskSource address sum kb1 kb2 = stands refl any-fits
+means-at AskService address sum kb1 kb2 = stands refl (only-fits 0x81)
+means-at AskSum address sum kb1 kb2 = stands refl (only-fits sum)
+means-at Format address sum kb1 kb2 = stands refl format-fits
+means-at Target address sum kb1 kb2 = stands refl any-fits
+means-at Source address sum kb1 kb2 = stands refl any-fits
+means-at LongTarget address sum kb1 kb2 = stands refl any-fits
+means-at LongSource address sum kb1 kb2 = stands refl any-fits
+means-at Length address sum kb1 kb2 = stands refl (only-fits 3)
+means-at Service address sum kb1 kb2 = stands refl (only-fits 0xC1)
+means-at KeyOne address sum kb1 kb2 = stands refl any-fits
+means-at KeyTwo address sum kb1 kb2 = stands refl any-fits
+means-at Sum address sum kb1 kb2 = stands refl (sum-fits sum (pairOf kb1 kb2))
 
 -- A STAGE MEANS ITS PLACE
 pub means : (s : Start) → Means s (placeOf s)

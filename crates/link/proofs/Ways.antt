@@ -19,7 +19,7 @@ use Rattle.events.specs.declared.Kind.the-variants.{Address, WakeUp, Byte, Tick
 use Rattle.events.specs.declared.Side.{Side}
 use Rattle.events.specs.declared.Event.{Event}
 use Rattle.starts.specs.Starts.{isOver}
-use Rattle.talk.specs.Talk.{isFirst, isInside, isSum, partReason, laterReason, begun, grown}
+use Rattle.talk.specs.Talk.{isFirst, isSum, partReason, laterReason, begun, grown}
 use Rattle.talk.specs.declared.Part.{Part}
 use Rattle.talk.specs.declared.Part.the-variants.{Target, Source, Length, Data, Sum}
 use Rattle.talk.specs.declared.Message.{Message}
@@ -34,7 +34,7 @@ use Rattle.reports.specs.Counting.{countedEvent}
 use Rattle.link.specs.Handling.{passed, byteHeard, actedBy, acted, handled, markAfter, linkAfter}
 use Rattle.link.specs.Handling.{begun as begins}
 use Rattle.link.specs.Stepping.{numberOf, takenBy, answerOf, countsAfter, stepOf}
-use Rattle.link.specs.Quick.{limitOf, calmIn, isCalm, wentOn, goesOn, isFirstByte}
+use Rattle.link.specs.Quick.{limitOf, calmIn, isCalm, wentOn, isInside, goesOn, isFirstByte}
 use Rattle.link.specs.Running.{runsOn, ranOn}
 use Rattle.link.specs.declared.Link.{Link}
 use Rattle.reports.specs.declared.Counts.{Counts}

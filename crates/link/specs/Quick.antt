@@ -1,7 +1,7 @@
 -- Tests that the code takes first, for the common byte. No rule stands here, and a reader may pass it over: that under these tests the answer is
 -- the one of `Stepping` is proved in proofs/Ways.antt.
 -- Assumes nothing.
-use mathlib.Core.Bool.{Bool, true, not, _&&_}
+use mathlib.Core.Bool.{Bool, true, false, not, _&&_}
 use Rattle.base.specs.Choice.{if_then_else_}
 use Rattle.base.specs.Numbers.{taken}
 use Rattle.base.specs.Sums.{countSum}
@@ -12,7 +12,9 @@ use Rattle.timing.specs.declared.Limit.{Limit}
 use Rattle.events.specs.Events.{isByte, sameSide}
 use Rattle.events.specs.declared.Event.{Event}
 use Rattle.starts.specs.Starts.{isOver}
-use Rattle.talk.specs.Talk.{isFirst, isInside}
+use Rattle.talk.specs.Talk.{isFirst}
+use Rattle.talk.specs.declared.Part.{Part}
+use Rattle.talk.specs.declared.Part.the-variants.{Target, Source, Length, Data, Sum}
 use Rattle.phases.specs.Phases.{isHeld, isQuiet}
 use Rattle.moves.specs.Moves.{isSilent, sinceOrigin}
 use Rattle.phases.specs.declared.State.{State}
@@ -51,7 +53,14 @@ wentOn l e p = record {
   no = taken;
 }
 
--- a byte goes on with the message held: its side's, neither the length byte nor the checksum
+-- a byte goes on with the message held: its side's, neither the length byte nor the checksum, so that any value will do
+unfoldable pub isInside : Part → Bool
+isInside Target = true
+isInside Source = true
+isInside Length = false
+isInside Data = true
+isInside Sum = false
+
 unfoldable pub goesOn : Link → Event → Bool
 goesOn l e =
     isByte (e .kind)

@@ -1,13 +1,14 @@
 // Short ways for the common byte. Under these tests the answer is the one that the rules give:
 // `proofs/Ways.antt`.
 ghost use mathlib.Core.Path.{_≡_};
-ghost use Rattle.link.specs.Quick.{limitOf, isCalm, wentOn, goesOn, isFirstByte};
+ghost use Rattle.link.specs.Quick.{limitOf, isCalm, wentOn, isInside, goesOn, isFirstByte};
 use crate::Answer;
 use crate::Link;
 use events::Event;
 use phases::Phase;
 use phases::State;
 use reports::no_reports;
+use talk::Part;
 use timing::Limit;
 use units::Micros;
 
@@ -69,6 +70,19 @@ pub(crate) fn go_on(l: Link, e: Event, p: Phase) -> Answer
     }
 }
 
+// Whether a message's next byte may have any value.
+fn is_inside(part: Part) -> bool
+    ensures { λ r. ⌜ r ≡ isInside part ⌝ }
+{
+    match part {
+        Part::Target => true,
+        Part::Source => true,
+        Part::Length => false,
+        Part::Data => true,
+        Part::Sum => false,
+    }
+}
+
 // Whether a byte goes on with the message held.
 pub(crate) fn goes_on(l: Link, e: Event) -> bool
     ensures { λ r. ⌜ r ≡ goesOn l e ⌝ }
@@ -84,7 +98,7 @@ pub(crate) fn goes_on(l: Link, e: Event) -> bool
     events::is_byte(kind)
         & phases::is_held(state)
         & !over
-        & (events::same_side(side, whose) & talk::is_inside(part))
+        & (events::same_side(side, whose) & is_inside(part))
 }
 
 // Whether a byte is the first of a message.

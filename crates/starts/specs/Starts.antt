@@ -17,26 +17,30 @@ use Rattle.starts.specs.declared.Stage.{Stage}
 use Rattle.starts.specs.declared.Stage.the-variants.{Sync, FirstKey, SecondKey, KeyBack, AddressBack}
 use Rattle.starts.specs.declared.Stage.the-variants.{AskFormat, AskTarget, AskSource, AskService, AskSum}
 use Rattle.starts.specs.declared.Stage.the-variants.{Format, Target, Source, LongTarget, LongSource, Length, Service, KeyOne, KeyTwo, Sum}
-use Rattle.starts.specs.declared.Role.{Role}
-use Rattle.starts.specs.declared.Role.the-variants.{Opening, PairOne, PairTwo, RequestEnd, Ending, Passing}
 use Rattle.starts.specs.declared.Due.{Due}
 use Rattle.starts.specs.declared.Start.{Start}
 
--- ---- what is expected of the next byte: from whom, and how long after
+-- ---- what is expected of the next byte: from whom, how long after, and whether it is the first byte of a fast start or the last of either
 -- "Slow. From the address: unit 55 after 60 to 300 ms; KB1 after 5 to 20; KB2 after 0 to 20, pair good; tester 255 minus KB2 after 25 to 50; unit
 -- 255 minus address after 25 to 50."
 -- "Fast. .. Tester's first byte starts 49 to 51 ms after the fall. The request is 81 or C1, target, source, 81, checksum; gaps up to 20 ms. The
 -- reply starts 25 to 50 ms later, gaps up to 20 ms, any of the four layouts in mode 00 or 10, data C1 KB1 KB2, pair good."
 abbrev pub due : Side → ℕ → ℕ → Due
-due side earliest latest = record { earliest = micros earliest; latest = micros latest; side = side }
+due side earliest latest = record { earliest = micros earliest; latest = micros latest; side = side; opening = false; last = false }
+
+abbrev pub firstDue : Side → ℕ → ℕ → Due
+firstDue side earliest latest = record { earliest = micros earliest; latest = micros latest; side = side; opening = true; last = false }
+
+abbrev pub lastDue : Side → ℕ → ℕ → Due
+lastDue side earliest latest = record { earliest = micros earliest; latest = micros latest; side = side; opening = false; last = true }
 
 unfoldable pub dueAt : Stage → Due
 dueAt Sync = due Unit 60_000 300_000
 dueAt FirstKey = due Unit 5_000 20_000
 dueAt SecondKey = due Unit 0 20_000
 dueAt KeyBack = due Tester 25_000 50_000
-dueAt AddressBack = due Unit 25_000 50_000
-dueAt AskFormat = due Tester 49_000 51_000
+dueAt AddressBack = lastDue Unit 25_000 50_000
+dueAt AskFormat = firstDue Tester 49_000 51_000
 dueAt AskTarget = due Tester 0 20_000
 dueAt AskSource = due Tester 0 20_000
 dueAt AskService = due Tester 0 20_000
@@ -50,75 +54,11 @@ dueAt Length = due Unit 0 20_000
 dueAt Service = due Unit 0 20_000
 dueAt KeyOne = due Unit 0 20_000
 dueAt KeyTwo = due Unit 0 20_000
-dueAt Sum = due Unit 0 20_000
-
--- ---- what a stage's byte is to its initialization: the tester's first of a fast one, KB1, KB2, the checksum of the request, the last of all, or none of
--- these
-unfoldable pub roleAt : Stage → Role
-roleAt Sync = Passing
-roleAt FirstKey = PairOne
-roleAt SecondKey = PairTwo
-roleAt KeyBack = Passing
-roleAt AddressBack = Ending
-roleAt AskFormat = Opening
-roleAt AskTarget = Passing
-roleAt AskSource = Passing
-roleAt AskService = Passing
-roleAt AskSum = RequestEnd
-roleAt Format = Passing
-roleAt Target = Passing
-roleAt Source = Passing
-roleAt LongTarget = Passing
-roleAt LongSource = Passing
-roleAt Length = Passing
-roleAt Service = Passing
-roleAt KeyOne = PairOne
-roleAt KeyTwo = PairTwo
-roleAt Sum = Ending
-
-unfoldable pub isOpening : Role → Bool
-isOpening Opening = true
-isOpening PairOne = false
-isOpening PairTwo = false
-isOpening RequestEnd = false
-isOpening Ending = false
-isOpening Passing = false
-
-unfoldable pub isPairOne : Role → Bool
-isPairOne Opening = false
-isPairOne PairOne = true
-isPairOne PairTwo = false
-isPairOne RequestEnd = false
-isPairOne Ending = false
-isPairOne Passing = false
-
-unfoldable pub isPairTwo : Role → Bool
-isPairTwo Opening = false
-isPairTwo PairOne = false
-isPairTwo PairTwo = true
-isPairTwo RequestEnd = false
-isPairTwo Ending = false
-isPairTwo Passing = false
-
-unfoldable pub isRequestEnd : Role → Bool
-isRequestEnd Opening = false
-isRequestEnd PairOne = false
-isRequestEnd PairTwo = false
-isRequestEnd RequestEnd = true
-isRequestEnd Ending = false
-isRequestEnd Passing = false
-
-unfoldable pub isEnding : Role → Bool
-isEnding Opening = false
-isEnding PairOne = false
-isEnding PairTwo = false
-isEnding RequestEnd = false
-isEnding Ending = true
-isEnding Passing = false
+dueAt Sum = lastDue Unit 0 20_000
 
 -- Where the time runs from: the tester's first byte is timed from the fall of the wake-up, every other one from the mark.
 unfoldable pub originOf : Stage → Micros → Micros → Micros
-originOf stage fall mark = if isOpening (roleAt stage) then fall else mark
+originOf stage fall mark = if dueAt stage .opening then fall else mark
 
 -- ---- which values fit
 -- "255 minus KB2", "255 minus address"
@@ -182,43 +122,47 @@ afterFormat v =
     if eqb v 0x80 then LongTarget else
     if eqb v 0x00 then Length else Service
 
-unfoldable pub nextStage : Stage → ℕ → Stage
-nextStage Sync v = FirstKey
-nextStage FirstKey v = SecondKey
-nextStage SecondKey v = KeyBack
-nextStage KeyBack v = AddressBack
-nextStage AddressBack v = AddressBack
-nextStage AskFormat v = AskTarget
-nextStage AskTarget v = AskSource
-nextStage AskSource v = AskService
-nextStage AskService v = AskSum
-nextStage AskSum v = Format
-nextStage Format v = afterFormat v
-nextStage Target v = Source
-nextStage Source v = Service
-nextStage LongTarget v = LongSource
-nextStage LongSource v = Length
-nextStage Length v = Service
-nextStage Service v = KeyOne
-nextStage KeyOne v = KeyTwo
-nextStage KeyTwo v = Sum
-nextStage Sum v = Sum
+-- one byte more, and its next stage: the sum counts it; KB1 and KB2 are kept as they come; behind the request's checksum the sum of the reply begins
+abbrev pub passedOn : Start → ℕ → Stage → Start
+passedOn s v stage = record { stage = stage; address = s .address; sum = byteSum (s .sum) v; pair = s .pair }
+
+abbrev pub keptOne : Start → ℕ → Stage → Start
+keptOne s v stage = record { stage = stage; address = s .address; sum = byteSum (s .sum) v; pair = pairOf v (s .pair .kb2) }
+
+abbrev pub keptTwo : Start → ℕ → Stage → Start
+keptTwo s v stage = record { stage = stage; address = s .address; sum = byteSum (s .sum) v; pair = pairOf (s .pair .kb1) v }
+
+abbrev pub requested : Start → Stage → Start
+requested s stage = record { stage = stage; address = s .address; sum = 0; pair = s .pair }
+
+abbrev pub onwardAt : Stage → Start → ℕ → Start
+onwardAt Sync s v = passedOn s v FirstKey
+onwardAt FirstKey s v = keptOne s v SecondKey
+onwardAt SecondKey s v = keptTwo s v KeyBack
+onwardAt KeyBack s v = passedOn s v AddressBack
+onwardAt AddressBack s v = passedOn s v AddressBack
+onwardAt AskFormat s v = passedOn s v AskTarget
+onwardAt AskTarget s v = passedOn s v AskSource
+onwardAt AskSource s v = passedOn s v AskService
+onwardAt AskService s v = passedOn s v AskSum
+onwardAt AskSum s v = requested s Format
+onwardAt Format s v = passedOn s v (afterFormat v)
+onwardAt Target s v = passedOn s v Source
+onwardAt Source s v = passedOn s v Service
+onwardAt LongTarget s v = passedOn s v LongSource
+onwardAt LongSource s v = passedOn s v Length
+onwardAt Length s v = passedOn s v Service
+onwardAt Service s v = passedOn s v KeyOne
+onwardAt KeyOne s v = keptOne s v KeyTwo
+onwardAt KeyTwo s v = keptTwo s v Sum
+onwardAt Sum s v = passedOn s v Sum
+
+unfoldable pub onward : Start → ℕ → Start
+onward s v = onwardAt (s .stage) s v
 
 -- the initialization's last byte
 unfoldable pub isLast : Stage → Bool
-isLast stage = isEnding (roleAt stage)
-
--- the sum of the request's bytes, and behind its checksum of the reply's
-unfoldable pub sumAfter : Start → ℕ → ℕ
-sumAfter s v = if isRequestEnd (roleAt (s .stage)) then 0 else byteSum (s .sum) v
-
-unfoldable pub onward : Start → ℕ → Start
-onward s v = record {
-  stage = nextStage (s .stage) v;
-  address = s .address;
-  sum = sumAfter s v;
-  pair = pairOf (if isPairOne (roleAt (s .stage)) then v else s .pair .kb1) (if isPairTwo (roleAt (s .stage)) then v else s .pair .kb2);
-}
+isLast stage = dueAt stage .last
 
 -- ---- how they begin: none, a slow one from its address, a fast one
 unfoldable pub noStart : Start

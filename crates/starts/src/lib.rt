@@ -1,9 +1,8 @@
 // The two initializations, as the stages that each goes through.
 ghost use mathlib.Core.Path.{_≡_};
-ghost use Rattle.starts.specs.Starts.{roleAt, isOpening, isPairOne, isPairTwo, isRequestEnd, isEnding};
-ghost use Rattle.starts.specs.Starts.{due, dueAt, originOf, complement, isReplyFormat, fits};
+ghost use Rattle.starts.specs.Starts.{due, firstDue, lastDue, dueAt, originOf, complement, isReplyFormat, fits};
 ghost use Rattle.starts.specs.Starts.{isFrom, isEarly, judged, isOver};
-ghost use Rattle.starts.specs.Starts.{afterFormat, nextStage, isLast, sumAfter, onward};
+ghost use Rattle.starts.specs.Starts.{afterFormat, passedOn, keptOne, keptTwo, requested, onward, isLast};
 ghost use Rattle.starts.specs.Starts.{noStart, slowStart, fastStart};
 use events::Side;
 use keys::Pair;
@@ -36,22 +35,14 @@ pub enum Stage {
     Sum,
 }
 
-// What a stage's byte is to its initialization: the tester's first of a fast one, KB1, KB2, the
-// request's checksum, the last of all, or none of these.
-enum Role {
-    Opening,
-    PairOne,
-    PairTwo,
-    RequestEnd,
-    Ending,
-    Passing,
-}
-
-// What is expected of a byte: the window in which it starts, and its side.
+// What is expected of a byte: the window in which it starts, its side, and whether it is the first of
+// a fast start or the last of either.
 struct Due {
     earliest: Micros,
     latest: Micros,
     side: Side,
+    opening: bool,
+    last: bool,
 }
 
 // How far an initialization has come: its key bytes as far as they have come, the address of a slow
@@ -71,6 +62,34 @@ fn due_from(side: Side, earliest: u64, latest: u64) -> Due
         earliest: Micros(earliest),
         latest: Micros(latest),
         side: side,
+        opening: false,
+        last: false,
+    }
+}
+
+// The tester's first byte of a fast start.
+fn first_due(side: Side, earliest: u64, latest: u64) -> Due
+    ensures { λ r. ⌜ r ≡ firstDue side earliest latest ⌝ }
+{
+    Due {
+        earliest: Micros(earliest),
+        latest: Micros(latest),
+        side: side,
+        opening: true,
+        last: false,
+    }
+}
+
+// The last byte of a start.
+fn last_due(side: Side, earliest: u64, latest: u64) -> Due
+    ensures { λ r. ⌜ r ≡ lastDue side earliest latest ⌝ }
+{
+    Due {
+        earliest: Micros(earliest),
+        latest: Micros(latest),
+        side: side,
+        opening: false,
+        last: true,
     }
 }
 
@@ -83,8 +102,8 @@ fn due_at(stage: Stage) -> Due
         Stage::FirstKey => due_from(Side::Unit, 5_000, 20_000),
         Stage::SecondKey => due_from(Side::Unit, 0, 20_000),
         Stage::KeyBack => due_from(Side::Tester, 25_000, 50_000),
-        Stage::AddressBack => due_from(Side::Unit, 25_000, 50_000),
-        Stage::AskFormat => due_from(Side::Tester, 49_000, 51_000),
+        Stage::AddressBack => last_due(Side::Unit, 25_000, 50_000),
+        Stage::AskFormat => first_due(Side::Tester, 49_000, 51_000),
         Stage::AskTarget => due_from(Side::Tester, 0, 20_000),
         Stage::AskSource => due_from(Side::Tester, 0, 20_000),
         Stage::AskService => due_from(Side::Tester, 0, 20_000),
@@ -98,105 +117,7 @@ fn due_at(stage: Stage) -> Due
         Stage::Service => due_from(Side::Unit, 0, 20_000),
         Stage::KeyOne => due_from(Side::Unit, 0, 20_000),
         Stage::KeyTwo => due_from(Side::Unit, 0, 20_000),
-        Stage::Sum => due_from(Side::Unit, 0, 20_000),
-    }
-}
-
-// What a stage's byte is to its initialization.
-fn role_at(stage: Stage) -> Role
-    ensures { λ r. ⌜ r ≡ roleAt stage ⌝ }
-{
-    match stage {
-        Stage::Sync => Role::Passing,
-        Stage::FirstKey => Role::PairOne,
-        Stage::SecondKey => Role::PairTwo,
-        Stage::KeyBack => Role::Passing,
-        Stage::AddressBack => Role::Ending,
-        Stage::AskFormat => Role::Opening,
-        Stage::AskTarget => Role::Passing,
-        Stage::AskSource => Role::Passing,
-        Stage::AskService => Role::Passing,
-        Stage::AskSum => Role::RequestEnd,
-        Stage::Format => Role::Passing,
-        Stage::Target => Role::Passing,
-        Stage::Source => Role::Passing,
-        Stage::LongTarget => Role::Passing,
-        Stage::LongSource => Role::Passing,
-        Stage::Length => Role::Passing,
-        Stage::Service => Role::Passing,
-        Stage::KeyOne => Role::PairOne,
-        Stage::KeyTwo => Role::PairTwo,
-        Stage::Sum => Role::Ending,
-    }
-}
-
-// Whether a byte is the tester's first.
-fn is_opening(role: Role) -> bool
-    ensures { λ r. ⌜ r ≡ isOpening role ⌝ }
-{
-    match role {
-        Role::Opening => true,
-        Role::PairOne => false,
-        Role::PairTwo => false,
-        Role::RequestEnd => false,
-        Role::Ending => false,
-        Role::Passing => false,
-    }
-}
-
-// Whether a byte is KB1.
-fn is_pair_one(role: Role) -> bool
-    ensures { λ r. ⌜ r ≡ isPairOne role ⌝ }
-{
-    match role {
-        Role::Opening => false,
-        Role::PairOne => true,
-        Role::PairTwo => false,
-        Role::RequestEnd => false,
-        Role::Ending => false,
-        Role::Passing => false,
-    }
-}
-
-// Whether a byte is KB2.
-fn is_pair_two(role: Role) -> bool
-    ensures { λ r. ⌜ r ≡ isPairTwo role ⌝ }
-{
-    match role {
-        Role::Opening => false,
-        Role::PairOne => false,
-        Role::PairTwo => true,
-        Role::RequestEnd => false,
-        Role::Ending => false,
-        Role::Passing => false,
-    }
-}
-
-// Whether a byte is the request's checksum.
-fn is_request_end(role: Role) -> bool
-    ensures { λ r. ⌜ r ≡ isRequestEnd role ⌝ }
-{
-    match role {
-        Role::Opening => false,
-        Role::PairOne => false,
-        Role::PairTwo => false,
-        Role::RequestEnd => true,
-        Role::Ending => false,
-        Role::Passing => false,
-    }
-}
-
-// Whether a byte is the last of all.
-fn is_ending(role: Role) -> bool
-    ensures { λ r. ⌜ r ≡ isEnding role ⌝ }
-{
-    match role {
-        Role::Opening => false,
-        Role::PairOne => false,
-        Role::PairTwo => false,
-        Role::RequestEnd => false,
-        Role::Ending => true,
-        Role::Passing => false,
+        Stage::Sum => last_due(Side::Unit, 0, 20_000),
     }
 }
 
@@ -204,7 +125,8 @@ fn is_ending(role: Role) -> bool
 pub fn origin(stage: Stage, fall: Micros, mark: Micros) -> Micros
     ensures { λ r. ⌜ r ≡ originOf stage fall mark ⌝ }
 {
-    if is_opening(role_at(stage)) {
+    let d = due_at(stage);
+    if d.opening {
         return fall;
     }
     mark
@@ -314,50 +236,52 @@ fn after_format(v: u8) -> Stage
     Stage::Service
 }
 
-// The stage behind one whose byte fits.
-fn next_stage(stage: Stage, v: u8) -> Stage
-    ensures { λ r. ⌜ r ≡ nextStage stage v ⌝ }
+// A start with one byte more, at the next stage.
+fn pass_on(s: Start, v: u8, stage: Stage) -> Start
+    ensures { λ r. ⌜ r ≡ passedOn s v stage ⌝ }
 {
-    match stage {
-        Stage::Sync => Stage::FirstKey,
-        Stage::FirstKey => Stage::SecondKey,
-        Stage::SecondKey => Stage::KeyBack,
-        Stage::KeyBack => Stage::AddressBack,
-        Stage::AddressBack => Stage::AddressBack,
-        Stage::AskFormat => Stage::AskTarget,
-        Stage::AskTarget => Stage::AskSource,
-        Stage::AskSource => Stage::AskService,
-        Stage::AskService => Stage::AskSum,
-        Stage::AskSum => Stage::Format,
-        Stage::Format => after_format(v),
-        Stage::Target => Stage::Source,
-        Stage::Source => Stage::Service,
-        Stage::LongTarget => Stage::LongSource,
-        Stage::LongSource => Stage::Length,
-        Stage::Length => Stage::Service,
-        Stage::Service => Stage::KeyOne,
-        Stage::KeyOne => Stage::KeyTwo,
-        Stage::KeyTwo => Stage::Sum,
-        Stage::Sum => Stage::Sum,
+    Start {
+        stage: stage,
+        address: s.address,
+        sum: base::byte_sum(s.sum, v),
+        pair: s.pair,
     }
 }
 
-// Whether a stage's byte is the last of its initialization.
-pub fn is_last(stage: Stage) -> bool
-    ensures { λ r. ⌜ r ≡ isLast stage ⌝ }
+// A start whose byte is KB1.
+fn keep_one(s: Start, v: u8, stage: Stage) -> Start
+    ensures { λ r. ⌜ r ≡ keptOne s v stage ⌝ }
 {
-    is_ending(role_at(stage))
+    Start {
+        stage: stage,
+        address: s.address,
+        sum: base::byte_sum(s.sum, v),
+        pair: Pair { kb1: v, kb2: s.pair.kb2 },
+    }
 }
 
-// The sum behind a byte.
-fn sum_after(s: Start, v: u8) -> u8
-    ensures { λ r. ⌜ r ≡ sumAfter s v ⌝ }
+// A start whose byte is KB2.
+fn keep_two(s: Start, v: u8, stage: Stage) -> Start
+    ensures { λ r. ⌜ r ≡ keptTwo s v stage ⌝ }
 {
-    let stage = s.stage;
-    if is_request_end(role_at(stage)) {
-        return 0;
+    Start {
+        stage: stage,
+        address: s.address,
+        sum: base::byte_sum(s.sum, v),
+        pair: Pair { kb1: s.pair.kb1, kb2: v },
     }
-    base::byte_sum(s.sum, v)
+}
+
+// A start whose byte is the request's checksum.
+fn end_request(s: Start, stage: Stage) -> Start
+    ensures { λ r. ⌜ r ≡ requested s stage ⌝ }
+{
+    Start {
+        stage: stage,
+        address: s.address,
+        sum: 0,
+        pair: s.pair,
+    }
 }
 
 // The initialization behind a byte that fits.
@@ -365,17 +289,36 @@ pub fn go_onward(s: Start, v: u8) -> Start
     ensures { λ r. ⌜ r ≡ onward s v ⌝ }
 {
     let stage = s.stage;
-    let role = role_at(stage);
-    let pair = Pair {
-        kb1: base::either(is_pair_one(role), v, s.pair.kb1),
-        kb2: base::either(is_pair_two(role), v, s.pair.kb2),
-    };
-    Start {
-        stage: next_stage(stage, v),
-        address: s.address,
-        sum: sum_after(s, v),
-        pair: pair,
+    match stage {
+        Stage::Sync => pass_on(s, v, Stage::FirstKey),
+        Stage::FirstKey => keep_one(s, v, Stage::SecondKey),
+        Stage::SecondKey => keep_two(s, v, Stage::KeyBack),
+        Stage::KeyBack => pass_on(s, v, Stage::AddressBack),
+        Stage::AddressBack => pass_on(s, v, Stage::AddressBack),
+        Stage::AskFormat => pass_on(s, v, Stage::AskTarget),
+        Stage::AskTarget => pass_on(s, v, Stage::AskSource),
+        Stage::AskSource => pass_on(s, v, Stage::AskService),
+        Stage::AskService => pass_on(s, v, Stage::AskSum),
+        Stage::AskSum => end_request(s, Stage::Format),
+        Stage::Format => pass_on(s, v, after_format(v)),
+        Stage::Target => pass_on(s, v, Stage::Source),
+        Stage::Source => pass_on(s, v, Stage::Service),
+        Stage::LongTarget => pass_on(s, v, Stage::LongSource),
+        Stage::LongSource => pass_on(s, v, Stage::Length),
+        Stage::Length => pass_on(s, v, Stage::Service),
+        Stage::Service => pass_on(s, v, Stage::KeyOne),
+        Stage::KeyOne => keep_one(s, v, Stage::KeyTwo),
+        Stage::KeyTwo => keep_two(s, v, Stage::Sum),
+        Stage::Sum => pass_on(s, v, Stage::Sum),
     }
+}
+
+// Whether a stage's byte is the last of its initialization.
+pub fn is_last(stage: Stage) -> bool
+    ensures { λ r. ⌜ r ≡ isLast stage ⌝ }
+{
+    let d = due_at(stage);
+    d.last
 }
 
 // No initialization.

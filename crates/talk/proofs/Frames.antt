@@ -4,7 +4,7 @@
 use mathlib.Core.Path.{_≡_, refl, sym, ap, _∙_}
 use mathlib.Core.Bool.{Bool, true, false, not, _&&_, false≢true}
 use mathlib.Core.List.{List, [], _∷_, _++_}
-use Prim.Native.Nat.{ℕ, zero, suc, _+_, _%_, _≤_, _<_}
+use Prim.Native.Nat.{ℕ, zero, suc, _+_, _/_, _%_, _≤_, _<_}
 use native.Mathlib.Nat.{add-zero}
 use native.Mathlib.Omega.{arith}
 use borrow.Author.Tests.{eqb-true, eqb-false, ne-eqb, lt-ltb, le-ltb}
@@ -25,7 +25,7 @@ use Rattle.frame.proofs.Lists.{total-append}
 use Rattle.events.specs.Events.{isTester, isUnit, isNobody, sameSide}
 use Rattle.events.specs.declared.Side.{Side}
 use Rattle.events.specs.declared.Side.the-variants.{Tester, Unit, Nobody}
-use Rattle.talk.specs.Talk.{isModeOne, hasExtra, placeAnnounced, headReason, afterAddresses, partAfterFormat, begun, laterReason, isSum, withSeven, afterData, withData, grown}
+use Rattle.talk.specs.Talk.{hasExtra, placeAnnounced, headReason, afterAddresses, partAfterFormat, begun, laterReason, isSum, withSeven, afterData, withData, grown}
 use Rattle.talk.specs.Messages.{endsIn, isMessage}
 use Rattle.talk.specs.declared.Part.{Part}
 use Rattle.talk.specs.declared.Part.the-variants.{Target}
@@ -151,12 +151,9 @@ read-taken kb1 kb2 f vs g =
 
 -- ---- the link's rules
 -- the first byte: no KB1 takes mode 01, so that form and place of the length decide
-mode-one : (kb1 : ℕ) (form : Form) → isModeOne form ≡ true → takesForm kb1 form ≡ false
-unfolding isModeOne takesForm
-mode-one kb1 Plain e = absurd (false≢true e)
-mode-one kb1 Physical e = absurd (false≢true e)
-mode-one kb1 Functional e = absurd (false≢true e)
-mode-one kb1 Foreign e = refl
+mode-one : (kb1 f : ℕ) → eqb (f / 64) 1 ≡ true → takesForm kb1 (formatForm f) ≡ false
+unfolding formatForm takesForm
+mode-one kb1 f e = rw (ne-eqb (f / 64) 0 (λ z. omega (arith, eqb-true (f / 64) 1 e)), e)
 
 head-rule : (one takes placed : Bool) → (one ≡ true → takes ≡ false)
     → eqb (if one then modeOne else if not takes then wrongForm else if placed then noReason else wrongLength) noReason ≡ (takes && placed)
@@ -167,7 +164,7 @@ head-rule false true true h = refl
 
 head-taken : (kb1 f : ℕ) → eqb (headReason kb1 f) noReason ≡ (takesForm kb1 (formatForm f) && placeAnnounced kb1 f)
 unfolding headReason
-head-taken kb1 f = head-rule (isModeOne (formatForm f)) (takesForm kb1 (formatForm f)) (placeAnnounced kb1 f) (mode-one kb1 (formatForm f))
+head-taken kb1 f = head-rule (eqb (f / 64) 1) (takesForm kb1 (formatForm f)) (placeAnnounced kb1 f) (mode-one kb1 f)
 
 -- a side is its own
 same-side : (side : Side) → sameSide side side ≡ true

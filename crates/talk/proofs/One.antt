@@ -11,7 +11,7 @@ use Rattle.talk.specs.declared.Request.{Request}
 use Rattle.keys.specs.declared.Pair.{Pair}
 use Rattle.events.specs.declared.Side.{Side}
 use Rattle.timing.specs.declared.Windows.{Windows}
-use Rattle.talk.specs.Talk.{isFirst, firstReason, begun, laterReason, isSum, isInside, grown, requestOf, windowsAfter, requestAfter, isStopped}
+use Rattle.talk.specs.Talk.{isFirst, firstReason, begun, laterReason, isSum, grown, requestOf, windowsAfter, requestAfter, isStopped}
 
 pub is-first : (reply : Reply) → Only (λ (r : Bool). r ≡ isFirst reply)
 is-first reply = only (isFirst reply)
@@ -27,9 +27,6 @@ later-reason m side v = only (laterReason m side v)
 
 pub is-sum : (part : Part) → Only (λ (r : Bool). r ≡ isSum part)
 is-sum part = only (isSum part)
-
-pub is-inside : (part : Part) → Only (λ (r : Bool). r ≡ isInside part)
-is-inside part = only (isInside part)
 
 pub grow : (m : Message) (v : ℕ) → Only (λ (r : Message). r ≡ grown m v)
 grow m v = only (grown m v)

@@ -32,11 +32,6 @@ use Rattle.talk.specs.declared.Part.the-variants.{Target, Source, Length
 use Rattle.talk.specs.declared.Message.{Message}
 
 -- ---- the reply that may come
-unfoldable pub isNever : Reply → Bool
-isNever Never = true
-isNever First = false
-isNever Further = false
-
 unfoldable pub isFirst : Reply → Bool
 isFirst Never = false
 isFirst First = true
@@ -49,7 +44,9 @@ testerTurn reply w gap = if isFirst reply || isEarlier gap (w .p3min) then early
 
 -- "From the unit, stray (4) unless a first or further reply may come and the gap is at most P2 max; then early (3) under P2 min."
 unfoldable pub isStray : Reply → Windows → Micros → Bool
-isStray reply w gap = isNever reply || isPassed (w .p2max) gap
+isStray Never w gap = true
+isStray First w gap = isPassed (w .p2max) gap
+isStray Further w gap = isPassed (w .p2max) gap
 
 unfoldable pub isHasty : Windows → Micros → Bool
 isHasty w gap = isEarlier gap (w .p2min)
@@ -63,12 +60,6 @@ unfoldable pub turnReason : Reply → Windows → Side → Micros → ℕ
 turnReason reply w side gap = if isTester side then testerTurn reply w gap else unitTurn reply w gap
 
 -- "Then mode 01 (5), form not announced or functional under extended timing (6), a length place KB1 doesn't announce (8)."
-unfoldable pub isModeOne : Form → Bool
-isModeOne Plain = false
-isModeOne Physical = false
-isModeOne Functional = false
-isModeOne Foreign = true
-
 unfoldable pub hasExtra : ℕ → Bool
 hasExtra f = eqb (f % 64) 0
 
@@ -77,7 +68,7 @@ placeAnnounced kb1 f = if hasExtra f then extraLength kb1 else lengthInFormat kb
 
 unfoldable pub headReason : ℕ → ℕ → ℕ
 headReason kb1 f =
-    if isModeOne (formatForm f) then modeOne else
+    if eqb (f / 64) 1 then modeOne else
     if not (takesForm kb1 (formatForm f)) then wrongForm else
     if placeAnnounced kb1 f then noReason else wrongLength
 
@@ -128,14 +119,6 @@ isSum Source = false
 isSum Length = false
 isSum Data = false
 isSum Sum = true
-
--- the byte that comes is neither the length byte nor the checksum, and so any value will do
-unfoldable pub isInside : Part → Bool
-isInside Target = true
-isInside Source = true
-isInside Length = false
-isInside Data = true
-isInside Sum = false
 
 -- the reason of a message that is held and ends because 20 ms have passed, under these key bytes: "report 2, reason 1"
 abbrev pub endReason : Pair → ℕ
@@ -229,15 +212,12 @@ requestOf m =
     if asksFor NewTiming m then NewTiming else Ordinary
 
 -- a unit frame that makes it take effect: "a unit frame starting C2", "of exactly C3 01", "Exactly C3 03"
-abbrev pub takesEffect : Request → Message → Bool
-takesEffect Ordinary m = false
-takesEffect Stop m = eqb (m .first) 0xC2
-takesEffect OwnTiming m = isExactly m (0xC3 ∷ 0x01 ∷ [])
-takesEffect NewTiming m = isExactly m (0xC3 ∷ 0x03 ∷ [])
-takesEffect Stopped m = false
-
 unfoldable pub isEffective : Request → Message → Bool
-isEffective request m = takesEffect request m
+isEffective Ordinary m = false
+isEffective Stop m = eqb (m .first) 0xC2
+isEffective OwnTiming m = isExactly m (0xC3 ∷ 0x01 ∷ [])
+isEffective NewTiming m = isExactly m (0xC3 ∷ 0x03 ∷ [])
+isEffective Stopped m = false
 
 -- the one at an index of seven bytes that are one number
 abbrev pub byteAt : ℕ → ℕ → ℕ

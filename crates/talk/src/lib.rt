@@ -1,9 +1,9 @@
 // Messages of a connected link, byte by byte, and what a frame does.
 ghost use mathlib.Core.Path.{_≡_};
 ghost use mathlib.Core.List.{[], _∷_};
-ghost use Rattle.talk.specs.Talk.{isNever, isFirst, testerTurn, isStray, isHasty, unitTurn, turnReason};
-ghost use Rattle.talk.specs.Talk.{isModeOne, hasExtra, placeAnnounced, headReason, firstReason};
-ghost use Rattle.talk.specs.Talk.{afterAddresses, partAfterFormat, begun, partReason, laterReason, isSum, isInside};
+ghost use Rattle.talk.specs.Talk.{isFirst, testerTurn, isStray, isHasty, unitTurn, turnReason};
+ghost use Rattle.talk.specs.Talk.{hasExtra, placeAnnounced, headReason, firstReason};
+ghost use Rattle.talk.specs.Talk.{afterAddresses, partAfterFormat, begun, partReason, laterReason, isSum};
 ghost use Rattle.talk.specs.Talk.{withSeven, afterData, withPart, withLength, withData, grown};
 ghost use Rattle.talk.specs.Talk.{isExactly, asksCodes, requestOf, isEffective, codesIn, ifAllowed, windowsFor, windowsAfter};
 ghost use Rattle.talk.specs.Talk.{spent, requestAfter, isStopped};
@@ -66,17 +66,6 @@ pub struct Message {
     pub why: u8,
 }
 
-// Whether no reply may come.
-fn is_never(reply: Reply) -> bool
-    ensures { λ r. ⌜ r ≡ isNever reply ⌝ }
-{
-    match reply {
-        Reply::Never => true,
-        Reply::First => false,
-        Reply::Further => false,
-    }
-}
-
 // Whether a first reply is awaited.
 pub fn is_first(reply: Reply) -> bool
     ensures { λ r. ⌜ r ≡ isFirst reply ⌝ }
@@ -100,7 +89,11 @@ fn tester_turn(reply: Reply, w: Windows, gap: Micros) -> u8
 fn is_stray(reply: Reply, w: Windows, gap: Micros) -> bool
     ensures { λ r. ⌜ r ≡ isStray reply w gap ⌝ }
 {
-    is_never(reply) | timing::passed(w.p2max, gap)
+    match reply {
+        Reply::Never => true,
+        Reply::First => timing::passed(w.p2max, gap),
+        Reply::Further => timing::passed(w.p2max, gap),
+    }
 }
 
 // Whether a unit's first byte is early.
@@ -133,18 +126,6 @@ fn turn_reason(reply: Reply, w: Windows, side: Side, gap: Micros) -> u8
     unit_turn(reply, w, gap)
 }
 
-// Whether a form is none of ours.
-fn is_mode_one(form: Form) -> bool
-    ensures { λ r. ⌜ r ≡ isModeOne form ⌝ }
-{
-    match form {
-        Form::Plain => false,
-        Form::Physical => false,
-        Form::Functional => false,
-        Form::Foreign => true,
-    }
-}
-
 // Whether a length byte follows a format byte.
 fn has_extra(f: u8) -> bool
     ensures { λ r. ⌜ r ≡ hasExtra f ⌝ }
@@ -166,10 +147,10 @@ fn place_announced(kb1: u8, f: u8) -> bool
 fn head_reason(kb1: u8, f: u8) -> u8
     ensures { λ r. ⌜ r ≡ headReason kb1 f ⌝ }
 {
-    let form = frame::format_form(f);
-    if is_mode_one(form) {
+    if f / 64 == 1 {
         return base::reason::MODE_ONE;
     }
+    let form = frame::format_form(f);
     let taken = keys::takes_form(kb1, form);
     if !taken {
         return base::reason::WRONG_FORM;
@@ -267,19 +248,6 @@ pub fn is_sum(part: Part) -> bool
         Part::Length => false,
         Part::Data => false,
         Part::Sum => true,
-    }
-}
-
-// Whether a message's next byte may have any value.
-pub fn is_inside(part: Part) -> bool
-    ensures { λ r. ⌜ r ≡ isInside part ⌝ }
-{
-    match part {
-        Part::Target => true,
-        Part::Source => true,
-        Part::Length => false,
-        Part::Data => true,
-        Part::Sum => false,
     }
 }
 

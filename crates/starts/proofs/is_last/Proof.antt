@@ -11,5 +11,4 @@ is-last-spec =
     tie.close
     (tie.spec
     (λ c κs. search needs)
-    (λ c κs. search needs)
-    (λ c. rw (c .is-ending .ensures, ← (c .before .role-at .ensures))))
+    (λ c. rw (c .due-at .ensures)))

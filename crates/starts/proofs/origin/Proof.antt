@@ -11,6 +11,5 @@ origin-spec =
     tie.close
     (tie.spec
     (λ c κs. search needs)
-    (λ c κs. search needs)
-    (λ c. rw (← (c .before .before .role-at .ensures), ← (c .before .is-opening .ensures), c .if1 .taken))
-    (λ c. rw (← (c .before .before .role-at .ensures), ← (c .before .is-opening .ensures), c .if1 .left)))
+    (λ c. rw (← (c .before .due-at .ensures), c .if1 .taken))
+    (λ c. rw (← (c .before .due-at .ensures), c .if1 .left)))

@@ -1,6 +1,7 @@
 -- `talk::head_reason` meets its contract: at each return, the tests and matches on the way there pick the case of the definition.
 -- Assumes nothing.
 use borrow.Author.Needs.{needs}
+use borrow.Author.Tests.{eq-eqb, ne-eqb}
 use Rattle.talk.specs.Talk.{headReason}
 use Rattle.talk.proofs.head_reason.Statement.{statement}
 use Rattle.talk.proofs.head_reason.Tie as tie
@@ -10,11 +11,10 @@ unfolding headReason
 head-reason-spec =
     tie.close
     (tie.spec
+    (λ c. rw (eq-eqb _ _ (c .if1 .taken)))
     (λ c κs. search needs)
     (λ c κs. search needs)
-    (λ c. rw (← (c .before .before .format-form .ensures), ← (c .before .is-mode-one .ensures), c .if1 .taken))
+    (λ c. rw (ne-eqb _ _ (c .before .before .before .if1 .left), ← (c .before .before .format-form .ensures), ← (c .before .takes-form .ensures), c .if2 .taken))
     (λ c κs. search needs)
-    (λ c. rw (← (c .before .before .before .before .format-form .ensures), ← (c .before .before .before .is-mode-one .ensures), c .before .before .if1 .left, ← (c .before .takes-form .ensures), c .if2 .taken))
-    (λ c κs. search needs)
-    (λ c. rw (← (c .before .before .before .before .before .before .format-form .ensures), ← (c .before .before .before .before .before .is-mode-one .ensures), c .before .before .before .before .if1 .left, ← (c .before .before .before .takes-form .ensures), c .before .before .if2 .left, ← (c .before .place-announced .ensures), c .if3 .taken))
-    (λ c. rw (← (c .before .before .before .before .before .before .format-form .ensures), ← (c .before .before .before .before .before .is-mode-one .ensures), c .before .before .before .before .if1 .left, ← (c .before .before .before .takes-form .ensures), c .before .before .if2 .left, ← (c .before .place-announced .ensures), c .if3 .left)))
+    (λ c. rw (ne-eqb _ _ (c .before .before .before .before .before .if1 .left), ← (c .before .before .before .before .format-form .ensures), ← (c .before .before .before .takes-form .ensures), c .before .before .if2 .left, ← (c .before .place-announced .ensures), c .if3 .taken))
+    (λ c. rw (ne-eqb _ _ (c .before .before .before .before .before .if1 .left), ← (c .before .before .before .before .format-form .ensures), ← (c .before .before .before .takes-form .ensures), c .before .before .if2 .left, ← (c .before .place-announced .ensures), c .if3 .left)))

@@ -10,6 +10,11 @@ unfolding isStray
 is-stray-spec =
     tie.close
     (tie.spec
+    (λ c. search needs)
+    (λ c. search needs)
     (λ c κs. search needs)
+    (λ c. search needs)
     (λ c κs. search needs)
-    (λ c. rw (c .passed .ensures, ← (c .before .is-never .ensures))))
+    (λ c. rw (c .enum-told .given .1))
+    (λ c. rw (c .passed .ensures, c .before .enum-told2 .given .1))
+    (λ c. rw (c .passed2 .ensures, c .before .enum-told3 .given .1)))

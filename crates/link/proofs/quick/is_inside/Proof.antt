@@ -1,9 +1,9 @@
--- `talk::is_inside` meets its contract: at each return, the tests and matches on the way there pick the case of the definition.
+-- `link::quick::is_inside` meets its contract: at each return, the tests and matches on the way there pick the case of the definition.
 -- Assumes nothing.
 use borrow.Author.Needs.{needs}
-use Rattle.talk.specs.Talk.{isInside}
-use Rattle.talk.proofs.is_inside.Statement.{statement}
-use Rattle.talk.proofs.is_inside.Tie as tie
+use Rattle.link.specs.Quick.{isInside}
+use Rattle.link.proofs.quick.is_inside.Statement.{statement}
+use Rattle.link.proofs.quick.is_inside.Tie as tie
 
 pub is-inside-spec : {M : Type 1} → statement M
 unfolding isInside

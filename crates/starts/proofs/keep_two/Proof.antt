@@ -1,0 +1,12 @@
+-- `starts::keep_two` meets its contract: at each return, the tests and matches on the way there pick the case of the definition.
+-- Assumes nothing.
+use borrow.Author.Needs.{needs}
+use Rattle.starts.proofs.keep_two.Statement.{statement}
+use Rattle.starts.proofs.keep_two.Tie as tie
+
+pub keep-two-spec : {M : Type 1} → statement M
+keep-two-spec =
+    tie.close
+    (tie.spec
+    (λ c κs. search needs)
+    (λ c. rw (c .byte-sum .ensures)))
