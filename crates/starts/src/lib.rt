@@ -240,11 +240,12 @@ fn after_format(v: u8) -> Stage
 fn pass_on(s: Start, v: u8, stage: Stage) -> Start
     ensures { λ r. ⌜ r ≡ passedOn s v stage ⌝ }
 {
+    let pair = s.pair;
     Start {
         stage: stage,
         address: s.address,
         sum: base::byte_sum(s.sum, v),
-        pair: s.pair,
+        pair: pair,
     }
 }
 
@@ -276,11 +277,12 @@ fn keep_two(s: Start, v: u8, stage: Stage) -> Start
 fn end_request(s: Start, stage: Stage) -> Start
     ensures { λ r. ⌜ r ≡ requested s stage ⌝ }
 {
+    let pair = s.pair;
     Start {
         stage: stage,
         address: s.address,
         sum: 0,
-        pair: s.pair,
+        pair: pair,
     }
 }
 
