@@ -1,4 +1,4 @@
--- The places for reports: what is in them, by their number, and that a report which finds one is the last of the list. Assumes nothing.
+-- The places for reports: which reports are listed, by their number n, and that one which finds a place becomes the last of the list. Assumes nothing.
 use Prim.Native.Nat.{ℕ, zero, suc, _+_, _≤_, _<_}
 use mathlib.Core.Path.{_≡_, refl, ap}
 use mathlib.Core.List.{[], _∷_, _++_}
@@ -11,11 +11,12 @@ use Rattle.reports.specs.Reporting.{places, inPlaces, appended, listed}
 use Rattle.reports.specs.declared.Report.{Report}
 use Rattle.reports.specs.declared.Reports.{Reports}
 
--- ---- the reports by their number, as the code asks for it
+-- ---- which reports are listed: the first k where their number is k, as the code asks, ..
 pub listed-first : (rs : Reports) (k : ℕ) → rs .n ≡ k → listed rs ≡ take k (inPlaces rs)
 unfolding listed
 listed-first rs k e = ap (λ (m : ℕ). take m (inPlaces rs)) e
 
+-- .. and all where it asks no further
 pub listed-all : (rs : Reports) → places ≤ rs .n → listed rs ≡ inPlaces rs
 unfolding listed
 listed-all rs h = take-all (rs .n) (inPlaces rs) h
@@ -37,11 +38,11 @@ placed-at a b c x (suc zero) h = record { last = refl; more = refl }
 placed-at a b c x (suc (suc zero)) h = record { last = refl; more = refl }
 placed-at a b c x (suc (suc (suc n))) h = absurd (omega arith)
 
--- a report that finds a place is the last of the list
+-- a report that finds a place becomes the last of the list, ..
 pub placed : (rs : Reports) (x : Report) → rs .n < places → Placed rs x
 placed rs x h = placed-at (rs .a) (rs .b) (rs .c) x (rs .n) h
 
--- and one that finds none fills none
+-- .. and no more places are filled than there are
 abbrev Few : Reports → Type 0
 Few rs = rs .n ≤ places
 

@@ -132,15 +132,16 @@ pub writes-none : (rs : Reports) (most at : ℕ) (out : List ℕ) → rs .n ≡ 
 unfolding reportsText
 writes-none rs most at out e = rw (listed-first rs 0 e) (none-writes most at out)
 
--- the lines so far: of reports xs, one behind the other
+-- the lines of the reports xs stand there, one after the other: ..
 abbrev pub Lines : ℕ → List Report → List ℕ → ℕ → List ℕ → Type 0
 Lines at xs out r after = Puts at (reportsText xs) (length xs * lineMost) out r after
 
+-- .. of none, ..
 pub no-lines : (at : ℕ) (out : List ℕ) → Lines at [] out at out
 unfolding reportsText
 no-lines at out = puts-nil at out
 
--- one more line behind them
+-- .. and of one report more
 lines-append : (xs : List Report) (x : Report) → reportsText xs ++ reportText x ≡ reportsText (xs ++ (x ∷ []))
 unfolding reportsText
 lines-append [] x = sym (append-nil (reportText x))
@@ -153,16 +154,16 @@ puts-line at xs x out a o1 r o2 h k u v =
     let e : length (xs ++ (x ∷ [])) * lineMost ≡ length xs * lineMost + lineMost = rw (length-append xs (x ∷ [])) (omega arith) in
     rw (e, ← (lines-append xs x)) j
 
--- there is room for one more
+-- there is room for one line more
 pub line-room : (at : ℕ) (xs : List Report) (out : List ℕ) (a : ℕ) (o1 : List ℕ) → at + reportsMost ≤ length out → length xs < places → Lines at xs out a o1
     → a + lineMost ≤ length o1
 line-room at xs out a o1 h k u = omega (arith, u .place, u .small, u .kept)
 
--- a number that is none of those asked for
+-- a number of at least k that is not k
 pub past : (n k : ℕ) → k ≤ n → (n ≡ k → ⊥) → k + 1 ≤ n
 past n k h e = omega arith
 
--- all of them are there
+-- the lines of all its reports are an event's
 pub puts-listed : (at : ℕ) (rs : Reports) (xs : List Report) (out : List ℕ) (r : ℕ) (after : List ℕ) → listed rs ≡ xs → Lines at xs out r after
     → Puts at (reportsText (listed rs)) reportsMost out r after
 puts-listed at rs xs out r after e u =
