@@ -24,7 +24,7 @@ use Rattle.talk.specs.Talk.{isStopped}
 use Rattle.phases.specs.Phases.{isStarting, isQuiet, isOpen, isConnected, down, off, starting, connected, talking, holding, damaged, settled, timed, asked, answered, framed}
 use Rattle.phases.specs.declared.State.the-variants.{Quiet}
 use Rattle.phases.specs.declared.Phase.{Phase}
-use Rattle.phases.proofs.StateTests.{is-starting, is-quiet, open-connected, quiet-connected, open-or, never-starting, quiet-is, starting-is}
+use Rattle.phases.proofs.StateTests.{is-starting, is-quiet, open-connected, quiet-connected, open-or-quiet, never-starting, quiet-is, starting-is}
 use Rattle.moves.specs.Moves.{makes, lossReason, isSilent, sinceOrigin, isIdle, isGoodLow}
 use Rattle.moves.specs.declared.Move.{Move}
 use Rattle.moves.proofs.Rules.{Moment, at-silence, at-p2, at-p3, at-window, at-closing, at-leaving, at-start, at-byte, at-stop, at-end, next}
@@ -179,13 +179,10 @@ module _ (l : Link) (e : Event) where
   At k q m = Rule (l .mark) e q k m
 
   -- ---- EACH RULE KEEPS IT, and its report has its cause
-  quiet-of : (q : Phase) → Up q → isOpen (q .state) ≡ false → isQuiet (q .state) ≡ true
-  quiet-of q u o = open-or (isQuiet (q .state) ≡ true) (q .state) u (λ x. absurd (false≢true (sym o ∙ x))) (λ x. x)
-
   closing-rule : (q : Phase) (m : Move) → Closer e → Left (l .mark) e p q → At at-closing q m → Shut (m .phase) × Makes Cause m
   unfolding down settled talking isStarting isOpen isConnected isQuiet
   closing-rule q m c j (rests u) = (
-    record { out = λ i. false≢true (sym (u .1) ∙ i); shut = u .0; up = up-left _ e p j; quiet = λ a n. quiet-of q (still-up _ e p j a n) (u .0) },
+    record { out = λ i. false≢true (sym (u .1) ∙ i); shut = u .0; up = up-left _ e p j; quiet = λ a n. open-or-quiet (q .state) (still-up _ e p j a n) (u .0) },
     silent Cause q,
   )
   closing-rule q m c j (cuts-off o) =
@@ -209,7 +206,7 @@ module _ (l : Link) (e : Event) where
 
   leaving-rule : (q : Phase) (m : Move) → Shut q → At at-leaving q m → IsOff (m .phase) × Makes Cause m
   unfolding down isStarting isConnected
-  leaving-rule q m j (rests u) = ((j .out, λ a. false≢true (sym u ∙ quiet-of q a (j .shut))), silent Cause q)
+  leaving-rule q m j (rests u) = ((j .out, λ a. false≢true (sym u ∙ open-or-quiet (q .state) a (j .shut))), silent Cause q)
   leaving-rule q m j (leaves c k) =
       let x = j .up (quiet-connected (q .state) (quiet-is k)) in
       ((λ i. false≢true i, λ a. false≢true a), λ _. (x .0, downs-by c (x .1)))

@@ -15,7 +15,6 @@ use Rattle.units.specs.declared.Micros.{Micros}
 use Rattle.events.specs.declared.Kind.{Kind}
 use Rattle.events.specs.declared.Kind.the-variants.{Address, WakeUp, Byte, Tick, Drop, Other}
 use Rattle.events.specs.declared.Event.{Event}
-use Rattle.phases.specs.declared.Phase.{Phase}
 use Rattle.moves.specs.Moves.{afterSilence, afterP2, afterP3, afterWindow, closing, leaving, startingSlow, startingFast, afterByte, afterStop}
 use Rattle.moves.specs.declared.Move.{Move}
 use Rattle.moves.proofs.Rules.{Moment, at-silence, at-p2, at-p3, at-window, at-closing, at-leaving, at-start, at-byte, at-stop, at-end, next}
@@ -24,9 +23,8 @@ use Rattle.moves.proofs.Rules.{by-silence, by-p2, by-p3, by-window, by-closing,
 use Rattle.reports.specs.Reporting.{told, moved}
 use Rattle.reports.specs.declared.Report.{Report}
 use Rattle.reports.specs.declared.Run.{Run}
-use Rattle.link.specs.Handling.{passed, shut, hearing, byteHeard, actedBy, acted, begun, handled}
-use Rattle.link.specs.Telling.{tells, passedTells, shutTells, byteTells, actedTells, handledTells}
-use Rattle.link.specs.declared.Link.{Link}
+use Rattle.link.specs.Handling.{passed, shut, hearing, byteHeard, actedBy, acted}
+use Rattle.link.specs.Telling.{tells, passedTells, shutTells, byteTells, actedTells}
 
 -- a move leads to its phase
 pub moved-phase : (r : Run) (m : Move) → moved r m .phase ≡ m .phase
