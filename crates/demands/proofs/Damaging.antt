@@ -2,7 +2,7 @@
 -- since the mark, or A, W or D comes.
 -- Assumes nothing.
 use Prim.Native.Nat.{ℕ, _+_, _-_, _<_}
-use mathlib.Core.Bool.{Bool, true, false, _&&_, false≢true}
+use mathlib.Core.Bool.{Bool, true, false, false≢true}
 use mathlib.Core.Path.{_≡_, refl, sym, ap, _∙_, subst}
 use mathlib.Core.Logic.{_↔_, _⊎_, inl, inr, ⊎-elim}
 use native.Mathlib.Omega.{arith}
@@ -37,6 +37,7 @@ use Rattle.demands.specs.Sessions.{Talk, Session, gapBefore}
 use Rattle.demands.specs.Endings.{Starter}
 use Rattle.demands.proofs.Basics.{basics, held-is}
 use Rattle.demands.proofs.Saying.{Each, each-none, each-both, says-speaks, tells-each}
+use Rattle.demands.proofs.Passing.{off-second}
 use Rattle.demands.proofs.Causes.{Closer, broken-made, cut-made}
 use Rattle.demands.proofs.Finding.{long-of, reports-made, taken-by-report, says-made}
 use Rattle.demands.proofs.Session.{session-link}
@@ -87,10 +88,6 @@ module _ (l : Link) (e : Event) where
   -- a rule that makes a report 2 ends what is open or closes it
   abbrev Damages : Run → Move → Type 0
   Damages s m = m .number ≡ damageReport → Loses l e (reportOf s (m .number) (m .reason))
-
-  off-second : (a b : Bool) → (a && b) ≡ false → a ≡ true → b ≡ false
-  off-second true b n t = n
-  off-second false b n t = absurd (false≢true t)
 
   rule : (k : Moment) → Reached e k → (s : Run) (m : Move) → Rule (l .mark) e (s .phase) k m → S k s → S (next k) (moved s m) × Damages s m
   unfolding next moved told settled talking down isOpen

@@ -2,7 +2,7 @@
 -- says (`Ends`), and a unit frame that answers a stop ends the session.
 -- Assumes nothing.
 use Prim.Native.Nat.{ℕ, _+_, _-_, _≤_, _<_}
-use mathlib.Core.Bool.{Bool, true, false, not, _&&_, _||_, false≢true}
+use mathlib.Core.Bool.{Bool, true, false, not, _||_, false≢true}
 use mathlib.Core.List.{List, [], _∷_, _++_, append-nil, append-assoc}
 use mathlib.Core.Path.{_≡_, refl, sym, ap, ap₂, _∙_, subst}
 use mathlib.Core.Logic.{_↔_, ⊎-elim}
@@ -65,6 +65,7 @@ use Rattle.demands.proofs.Tiling.{sum-is}
 use Rattle.demands.proofs.Listening.{Bytes, byte-longer, begins-longer}
 use Rattle.demands.proofs.Saying.{Each, each-none, each-one, each-both}
 use Rattle.demands.proofs.Reasons.{same-is, has-side, first-early, first-stray, first-else, first-head, later-elsewhere}
+use Rattle.demands.proofs.Passing.{off-second}
 use Rattle.demands.proofs.Going.{Fits, Holds, reasonWith, Opened, At, Told, plain, turned}
 use Rattle.demands.proofs.Closing.{Ends, still-up, over}
 use Rattle.demands.specs.Ours.{ours}
@@ -562,10 +563,6 @@ module _ (es : Log) (e : Event) (all : List Report) (kind : e .kind ≡ Byte) (n
           (each-both (Told es e all t) (x ∷ []) (y q ∷ [])
           (each-one (Told es e all t) x (frame-told (λ _ _. record { report = y q; made = i (y q) (later first); number-is = refl; reason-is = refl })))
           (each-one (Told es e all t) (y q) (stop-told q (i x first) u z))) refl
-
-      off-second : (b c : Bool) → (b && c) ≡ false → b ≡ true → c ≡ false
-      off-second true c n k = n
-      off-second false c n k = absurd (false≢true k)
 
       -- by whether a stop was answered
       frame-by : (q : Phase) → q .state ≡ Quiet → (isStopped (q .request) ≡ true → (e .side ≡ Unit) × Stops)
