@@ -24,7 +24,7 @@ use Rattle.talk.specs.Talk.{isStopped}
 use Rattle.phases.specs.Phases.{isStarting, isQuiet, isOpen, isConnected, down, off, starting, connected, talking, holding, damaged, settled, timed, asked, answered, framed}
 use Rattle.phases.specs.declared.State.the-variants.{Quiet}
 use Rattle.phases.specs.declared.Phase.{Phase}
-use Rattle.phases.proofs.StateTests.{is-starting, is-quiet, open-connected, quiet-connected, open-or, never-starting, quiet-is, starting-is}
+use Rattle.phases.proofs.StateTests.{is-starting, is-quiet, open-connected, quiet-connected, open-or-quiet, never-starting, quiet-is, starting-is}
 use Rattle.moves.specs.Moves.{makes, lossReason, isSilent, sinceOrigin, isIdle, isGoodLow}
 use Rattle.moves.specs.declared.Move.{Move}
 use Rattle.moves.proofs.Rules.{Moment, at-silence, at-p2, at-p3, at-window, at-closing, at-leaving, at-start, at-byte, at-stop, at-end, next}
@@ -96,24 +96,24 @@ module _ (l : Link) (e : Event) where
   abbrev Up : Phase → Type 0
   Up q = isConnected (q .state) ≡ true
 
-  abbrev Ran : Type 0
-  Ran = Over p (l .mark) (e .start)
+  abbrev RanOut : Type 0
+  RanOut = Over p (l .mark) (e .start)
 
   -- ---- THE CAUSES
   -- of a report 4, by its reason; a byte that fails gives the greater ones
   pub data Fails : ℕ → Type 0 where
-    runs-out : Ran → Fails windowOver
-    closes : In p → (Ran → ⊥) → Closer e → Fails closed
+    runs-out : RanOut → Fails windowOver
+    closes : In p → (RanOut → ⊥) → Closer e → Fails closed
     falls-short : e .kind ≡ WakeUp → isIdle (l .mark) (e .start) ≡ true → isGoodLow (e .start) (e .end) ≡ false → Fails wrongLow
-    wrong : In p → (Ran → ⊥) → e .kind ≡ Byte → wrongLow < judges l e p → Fails (judges l e p)
+    wrong : In p → (RanOut → ⊥) → e .kind ≡ Byte → wrongLow < judges l e p → Fails (judges l e p)
 
-  pub of-over : {k : ℕ} → Fails k → k ≡ windowOver → Ran
+  pub of-over : {k : ℕ} → Fails k → k ≡ windowOver → RanOut
   of-over (runs-out o) z = o
   of-over (closes i o c) z = absurd (omega arith)
   of-over (falls-short w i g) z = absurd (omega arith)
   of-over (wrong i o b h) z = absurd (omega arith)
 
-  pub of-closed : {k : ℕ} → Fails k → k ≡ closed → In p × (Ran → ⊥) × Closer e
+  pub of-closed : {k : ℕ} → Fails k → k ≡ closed → In p × (RanOut → ⊥) × Closer e
   of-closed (runs-out o) z = absurd (omega arith)
   of-closed (closes i o c) z = (i, o, c)
   of-closed (falls-short w i g) z = absurd (omega arith)
@@ -179,13 +179,10 @@ module _ (l : Link) (e : Event) where
   At k q m = Rule (l .mark) e q k m
 
   -- ---- EACH RULE KEEPS IT, and its report has its cause
-  quiet-of : (q : Phase) → Up q → isOpen (q .state) ≡ false → isQuiet (q .state) ≡ true
-  quiet-of q u o = open-or (isQuiet (q .state) ≡ true) (q .state) u (λ x. absurd (false≢true (sym o ∙ x))) (λ x. x)
-
   closing-rule : (q : Phase) (m : Move) → Closer e → Left (l .mark) e p q → At at-closing q m → Shut (m .phase) × Makes Cause m
   unfolding down settled talking isStarting isOpen isConnected isQuiet
   closing-rule q m c j (rests u) = (
-    record { out = λ i. false≢true (sym (u .1) ∙ i); shut = u .0; up = up-left _ e p j; quiet = λ a n. quiet-of q (still-up _ e p j a n) (u .0) },
+    record { out = λ i. false≢true (sym (u .1) ∙ i); shut = u .0; up = up-left _ e p j; quiet = λ a n. open-or-quiet (q .state) (still-up _ e p j a n) (u .0) },
     silent Cause q,
   )
   closing-rule q m c j (cuts-off o) =
@@ -209,7 +206,7 @@ module _ (l : Link) (e : Event) where
 
   leaving-rule : (q : Phase) (m : Move) → Shut q → At at-leaving q m → IsOff (m .phase) × Makes Cause m
   unfolding down isStarting isConnected
-  leaving-rule q m j (rests u) = ((j .out, λ a. false≢true (sym u ∙ quiet-of q a (j .shut))), silent Cause q)
+  leaving-rule q m j (rests u) = ((j .out, λ a. false≢true (sym u ∙ open-or-quiet (q .state) a (j .shut))), silent Cause q)
   leaving-rule q m j (leaves c k) =
       let x = j .up (quiet-connected (q .state) (quiet-is k)) in
       ((λ i. false≢true i, λ a. false≢true a), λ _. (x .0, downs-by c (x .1)))
@@ -232,7 +229,7 @@ module _ (l : Link) (e : Event) where
       (λ _. by-test P (isEarly s (sinceOrigin q (l .mark) (e .start))) {x = tooEarly} (λ _ _. omega arith)
       (λ _. by-test P (fits s (e .value)) {x = noReason} {y = misfit} (λ _ z. absurd (false≢true (sym z))) (λ _ _. omega arith)))
 
-  open-window : (Ran → ⊥) → In p → Open p (l .mark) (e .start)
+  open-window : (RanOut → ⊥) → In p → Open p (l .mark) (e .start)
   open-window n i = false-of (isOver (p .start) (sinceOrigin p (l .mark) (e .start))) (λ o. n (i, o))
 
   heard-off : Heard down
@@ -247,9 +244,11 @@ module _ (l : Link) (e : Event) where
   byte-rule q m k j (rests d) = (heard-up q (ap isStarting d) (up-left _ e p j (ap isConnected d) .0), silent Cause q)
   byte-rule q m k j (strays d) = (heard-off, λ _. (down-left _ e p j d, k))
   byte-rule q m k j (misses s v) =
-      let x = in-left _ e p j (starting-is s) in
-      (heard-off, λ _. subst (λ (y : Phase). eqb (judges l e y) noReason ≡ false → Fails (judges l e y)) (sym (x .0))
-      (λ z. wrong (x .1) (x .2) k (judged-above p z)) v)
+      let x = in-left _ e p j (starting-is s) in (
+        heard-off,
+        λ _. subst (λ (y : Phase). eqb (judges l e y) noReason ≡ false → Fails (judges l e y)) (sym (x .0))
+            (λ z. wrong (x .1) (x .2) k (judged-above p z)) v,
+      )
   byte-rule q m k j (connects s v z) =
       let x = in-left _ e p j (starting-is s) in
       let c : Completes l e = record {
@@ -428,14 +427,14 @@ module _ (l : Link) (e : Event) where
   unfolding next
   idles-made g i = made downReport idleOver refl (later tt (later tt (now tt (λ _. down) (λ q j. due-third _ e p j g i))))
 
-  pub over-made : Ran → Tells failedReport windowOver (handledTells l e)
+  pub over-made : RanOut → Tells failedReport windowOver (handledTells l e)
   unfolding next
   over-made o = made failedReport windowOver refl (later tt (later tt (later tt (now tt (λ _. off) (λ q j. due-fourth _ e p j o)))))
 
   is-in : (q : Phase) → q ≡ p → In p → In q
   is-in q x i = ap (λ (y : Phase). isStarting (y .state)) x ∙ i
 
-  pub closed-made : In p → (Ran → ⊥) → Closer e → Tells failedReport closed (handledTells l e)
+  pub closed-made : In p → (RanOut → ⊥) → Closer e → Tells failedReport closed (handledTells l e)
   closed-made i n c =
       made failedReport closed refl (acting (now c (λ _. off) (λ q j. aborts (is-starting (q .state) (is-in q (still-in _ e p j i n) i)))))
 
@@ -463,13 +462,13 @@ module _ (l : Link) (e : Event) where
   pub outside-made : Long p → IsDown (l .mark) e p → e .kind ≡ Byte → Tells outsideReport noReason (handledTells l e)
   outside-made g d k = made outsideReport noReason refl (acting (heard k (now k (λ _. down) (λ q j. strays (is-down _ e p j g d)))))
 
-  pub wrong-made : e .kind ≡ Byte → In p → (Ran → ⊥) → eqb (judges l e p) noReason ≡ false → Tells failedReport (judges l e p) (handledTells l e)
+  pub wrong-made : e .kind ≡ Byte → In p → (RanOut → ⊥) → eqb (judges l e p) noReason ≡ false → Tells failedReport (judges l e p) (handledTells l e)
   wrong-made k i n v =
       made failedReport (judges l e p) refl
       (acting (heard k (now k (λ _. off) (λ q j. subst (λ (y : Phase). At at-byte y (makes failedReport (judges l e p) off)) (sym (still-in _ e p j i n))
       (misses (is-starting (p .state) i) v)))))
 
-  pub last-made : e .kind ≡ Byte → In p → (Ran → ⊥) → judges l e p ≡ noReason → isLast (p .start .stage) ≡ true
+  pub last-made : e .kind ≡ Byte → In p → (RanOut → ⊥) → judges l e p ≡ noReason → isLast (p .start .stage) ≡ true
       → Tells connectedReport noReason (handledTells l e)
   last-made k i n v z =
       made connectedReport noReason refl

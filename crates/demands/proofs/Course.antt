@@ -3,8 +3,9 @@
 -- Assumes nothing.
 use Prim.Native.Nat.{ℕ, _+_, _≤_}
 use mathlib.Core.Bool.{Bool, true, false, false≢true}
-use mathlib.Core.List.{List, [], _++_}
+use mathlib.Core.List.{List, [], _++_, append-assoc}
 use mathlib.Core.Path.{_≡_, refl, sym, ap, _∙_, subst, subst₃}
+use mathlib.Core.Logic.{_⊎_, inl, inr}
 use native.Mathlib.Omega.{arith}
 use borrow.Author.Tests.{eqb-true, eqb-false}
 use lib.Dec.{eqb}
@@ -14,21 +15,25 @@ use Rattle.base.specs.Reports.{downReport}
 use Rattle.units.specs.Units.{micros, gapOf}
 use Rattle.units.specs.declared.Micros.{Micros}
 use Rattle.events.specs.Events.{isByte}
-use Rattle.events.specs.declared.Kind.{Kind}
-use Rattle.events.specs.declared.Kind.the-variants.{Address, WakeUp, Byte, Tick, Drop, Other}
+use Rattle.events.specs.declared.Kind.the-variants.{Byte, Tick, Other}
 use Rattle.events.specs.declared.Event.{Event}
-use Rattle.phases.specs.Phases.{isStarting, isQuiet, isOpen, isConnected}
+use Rattle.phases.specs.Phases.{isStarting, isQuiet, isOpen, isConnected, down, talking, settled}
 use Rattle.talk.specs.declared.Request.{Request}
 use Rattle.phases.specs.declared.Phase.{Phase}
 use Rattle.moves.specs.Moves.{isSilent}
-use Rattle.reports.specs.Reporting.{noReports, listed}
+use Rattle.moves.specs.declared.Move.{Move}
+use Rattle.moves.proofs.Rules.{Moment, at-silence, at-p2, at-p3, at-window, at-closing, at-leaving, at-start, at-byte, at-stop, at-end}
+use Rattle.moves.proofs.Rules.{next as nextOf}
+use Rattle.moves.proofs.Rules.{Rule, rests, cuts-off, aborts}
+use Rattle.reports.specs.Reporting.{noReports, listed, moved}
 use Rattle.reports.specs.declared.Report.{Report}
 use Rattle.reports.specs.declared.Run.{Run}
-use Rattle.link.specs.Handling.{passed, actedBy, acted, begun, handled, linkAfter}
+use Rattle.link.specs.Handling.{passed, hearing, begun, handled, linkAfter}
 use Rattle.link.specs.Stepping.{refusedBy, takenBy}
 use Rattle.link.specs.declared.Link.{Link}
 use Rattle.link.specs.declared.Answer.{Answer}
-use Rattle.link.specs.Telling.{passedTells, actedTells, handledTells}
+use Rattle.link.specs.Telling.{tells, passedTells, handledTells}
+use Rattle.link.proofs.Walk.{moved-phase, Reached, act-walk-by}
 use Rattle.link.proofs.Three.{three-enough}
 use Rattle.link.proofs.Long.{passed-recent}
 use Rattle.demands.specs.Logs.{Log, _▷_, heardIn, numberAfter, takenOf, InBytes}
@@ -45,8 +50,8 @@ use Rattle.demands.proofs.Behind.{refused, waits}
 use Rattle.demands.proofs.Listening.{heard-bytes, byte-more, other-more, refused-more}
 use Rattle.demands.proofs.Recent.{not-silent}
 use Rattle.demands.proofs.Reasons.{not-other}
-use Rattle.demands.proofs.Going.{At, SpeaksOn, at-more, Told, talked, Passes, passed-step}
-use Rattle.demands.proofs.Closing.{Ends, still-up, over, behind, tick-ends, drop-ends, slow-ends, fast-ends}
+use Rattle.demands.proofs.Going.{At, SpeaksOn, at-more, Told, talked, Passes, closing-rule, leaving-rule, next, passed-step}
+use Rattle.demands.proofs.Closing.{Ends, still-up, over, behind, tick-ends, Gone, leaves-gone, start-ends}
 use Rattle.demands.proofs.Hearing.{byte-ends, byte-outside}
 use Rattle.demands.specs.Ours.{ours, ourAnswer}
 
@@ -65,33 +70,80 @@ module _ (es : Log) (e : Event) (t : Talk) (b : InBytes (es ▷ e)) (number : nu
   in-time : isSilent (gapOf (here .mark) (e .start)) ≡ false → InTime (takenOf es) e
   in-time h = subst (λ (m : Micros). e .start .0 ≤ m .0 + 20_000) (basics es .mark) (not-silent (here .mark) (e .start) h)
 
-  -- it acts
-  act-ends : (k : Kind) → e .kind ≡ k → (all rs : List Report) (r : Run) → (isOpen (r .phase .state) ≡ true → InTime (takenOf es) e)
-      → Each (λ (x : Report). Among x all) (actedTells k r e (here .mark)) → Passes es e all t rs r
-      → Ends es e all t (rs ++ actedTells k r e (here .mark)) (actedBy k r e (here .mark))
-  unfolding isByte InBytes
-  act-ends Address k all rs r f i p = slow-ends es e all t rs r (e .value) (here .mark) (e .start) p
-  act-ends WakeUp k all rs r f i p = fast-ends es e all t rs r (here .mark) (e .start) (e .end) p
-  act-ends Byte k all rs r f i p =
-      let one = byte-more es e number k in
-      let front = heard-bytes es (b .0) in
-      let bytes = heard-bytes (es ▷ e) b in
-      let mark = basics es .mark in
-      behind es e all t rs _ r _ p (λ u a. byte-ends es e all k number one room front bytes (here .mark) mark u r f a i)
-      (byte-outside es e all k number one room front bytes (here .mark) mark t r)
-  act-ends Tick k all rs r f i p = tick-ends es e all t rs r (other-more es e number (ap isByte k)) (λ o u. tick-speaks es e number k (f o) u) p
-  act-ends Drop k all rs r f i p = drop-ends es e all t rs r p
-  act-ends Other k all rs r f i p = absurd (not-other (takenOf es) e number k)
+  -- ---- WHAT HOLDS AT EACH MOMENT from where time has passed: the session goes on or is over, with nothing open, not connected, and in the end as `Ends` says.
+  -- (`all` are the event's reports.) A byte's report is judged together with the stop that may follow.
+  module _ (all : List Report) where
+    data Hears (xs : List Report) : Run → Type 0 where
+      heard : (r : Run) → Passes es e all t xs r → (isOpen (r .phase .state) ≡ true → InTime (takenOf es) e) → Hears xs (hearing r)
+
+    abbrev Done : Run → List Report → Type 0
+    Done r xs = Each (λ (x : Report). Among x all) xs → Ends es e all t xs r
+
+    abbrev I : Moment → Run → List Report → Type 0
+    I at-silence r xs = ⊥
+    I at-p2 r xs = ⊥
+    I at-p3 r xs = ⊥
+    I at-window r xs = ⊥
+    I at-closing r xs = Passes es e all t xs r × (isOpen (r .phase .state) ≡ true → InTime (takenOf es) e)
+    I at-leaving r xs = Passes es e all t xs r × (isOpen (r .phase .state) ≡ false)
+    I at-start r xs = Gone es e all t xs r
+    I at-byte r xs = Hears xs r
+    I at-stop r xs = (m : Move) → Rule (here .mark) e (r .phase) at-stop m → Done (moved r m) (xs ++ tells r m)
+    I at-end r xs = Done r xs
+
+    closes : (p : Phase) (m : Move) → Rule (here .mark) e p at-closing m → isOpen (m .phase .state) ≡ false
+    unfolding settled talking down isOpen
+    closes p m (rests u) = u .0
+    closes p m (cuts-off o) = refl
+    closes p m (aborts s) = refl
+
+    hears-byte : e .kind ≡ Byte → (r : Run) (xs : List Report) (m : Move) → Rule (here .mark) e (r .phase) at-byte m → Hears xs r
+        → I at-stop (moved r m) (xs ++ tells r m)
+    unfolding InBytes
+    hears-byte k r xs m u (heard s p f) n v i =
+        let one = byte-more es e number k in
+        let front = heard-bytes es (b .0) in
+        let bytes = heard-bytes (es ▷ e) b in
+        let mark = basics es .mark in
+        let ss = tells r m ++ tells (moved r m) n in
+        let q = append-assoc xs (tells r m) (tells (moved r m) n) in
+        subst (λ (ys : List Report). Ends es e all t ys (moved (moved r m) n)) (sym q)
+        (behind es e all t xs ss s (moved (moved r m) n) p
+        (λ x a. byte-ends es e all k number one room front bytes (here .mark) mark x s m u f a n v
+        (λ y j. i y (subst (Among y) (sym q) (among-right xs j))))
+        (λ d. byte-outside es e all k number one room front bytes (here .mark) mark t s m u d n v))
+
+    moves : (k : Moment) → Reached e k → (r : Run) (xs : List Report) (m : Move) → Rule (here .mark) e (r .phase) k m → I k r xs
+        → I (nextOf k) (moved r m) (xs ++ tells r m)
+    unfolding nextOf down isOpen isStarting isQuiet
+    moves at-silence w r xs m u i = absurd i
+    moves at-p2 w r xs m u i = absurd i
+    moves at-p3 w r xs m u i = absurd i
+    moves at-window w r xs m u i = absurd i
+    moves at-closing w r xs m u i = (
+      next es e all (here .mark) at-closing (closing-rule es e all (here .mark)) (refl, refl) t xs r m u (i .0),
+      ap (λ (p : Phase). isOpen (p .state)) (moved-phase r m) ∙ closes (r .phase) m u,
+    )
+    moves at-leaving w r xs m u i =
+        leaves-gone es e all (here .mark) t xs r m u (i .1) (next es e all (here .mark) at-leaving (leaving-rule es e all (here .mark)) refl t xs r m u (i .0))
+    moves at-start w r xs m u i = λ _. start-ends es e all (here .mark) t xs r m u i
+    moves at-byte w r xs m u i = hears-byte w r xs m u i
+    moves at-stop w r xs m u i = i m u
+    moves at-end w r xs m (rests u) i = absurd u
+
+    tick-done : (e .kind ≡ Tick) ⊎ (e .kind ≡ Other) → (r : Run) (xs : List Report) → I at-closing r xs → Done r xs
+    unfolding isByte
+    tick-done (inl k) r xs i _ = tick-ends es e all t xs r (other-more es e number (ap isByte k)) (λ o u. tick-speaks es e number k (i .1 o) u) (i .0)
+    tick-done (inr k) r xs i _ = absurd (not-other (takenOf es) e number k)
 
   handled-ends : At es t (here .phase) (here .named) (here .heard) → Ends es e (handledTells here e) t (handledTells here e) (handled here e)
-  unfolding handledTells handled acted begun
+  unfolding handledTells handled begun
   handled-ends a =
       let all = handledTells here e in
       let r = begun here e in
-      let s = passed r (here .mark) (e .start) in
-      let p = passed-step es e all t r (here .mark) (e .start) a in
-      act-ends (e .kind) refl all (passedTells r (here .mark) (e .start)) s (λ o. in-time (passed-recent (here .mark) (e .start) r o))
-      (λ x i. among-right (passedTells r (here .mark) (e .start)) i) p
+      act-walk-by (here .mark) e (I all) (moves all) (λ _ s xs i. heard s (i .0) (i .1)) (λ _ s xs g _. over (g .said) (g .each) (g .off)) (tick-done all)
+      (passed r (here .mark) (e .start)) (passedTells r (here .mark) (e .start))
+      (passed-step es e all t r (here .mark) a, λ o. in-time (passed-recent (here .mark) (e .start) r o)) (λ x i. i)
 
 -- ---- any event, as the step answers it
 -- a link as a run that has made no report

@@ -2,17 +2,14 @@
 -- since the mark, or A, W or D comes.
 -- Assumes nothing.
 use Prim.Native.Nat.{ℕ, _+_, _-_, _<_}
-use mathlib.Core.Bool.{Bool, true, false, _&&_, false≢true}
-use mathlib.Core.List.{[], _∷_}
+use mathlib.Core.Bool.{Bool, true, false, false≢true}
 use mathlib.Core.Path.{_≡_, refl, sym, ap, _∙_, subst}
 use mathlib.Core.Logic.{_↔_, _⊎_, inl, inr, ⊎-elim}
 use native.Mathlib.Omega.{arith}
-use lib.Dec.{eqb}
 use lib.ListN.{length}
 use Rattle.base.specs.Choice.{if_then_else_}
 use Rattle.base.specs.Numbers.{taken}
 use Rattle.base.specs.Reports.{damageReport, brokenOff, closed}
-use Rattle.base.proofs.Tests.{by-test}
 use Rattle.units.specs.Units.{gapOf}
 use Rattle.units.specs.declared.Micros.{Micros}
 use Rattle.events.specs.declared.Kind.the-variants.{Drop}
@@ -39,7 +36,8 @@ use Rattle.demands.specs.Accounts.{heldIn}
 use Rattle.demands.specs.Sessions.{Talk, Session, gapBefore}
 use Rattle.demands.specs.Endings.{Starter}
 use Rattle.demands.proofs.Basics.{basics, held-is}
-use Rattle.demands.proofs.Saying.{Each, each-none, each-one, each-both, says-speaks}
+use Rattle.demands.proofs.Saying.{Each, each-none, each-both, says-speaks, tells-each}
+use Rattle.demands.proofs.Passing.{off-second}
 use Rattle.demands.proofs.Causes.{Closer, broken-made, cut-made}
 use Rattle.demands.proofs.Finding.{long-of, reports-made, taken-by-report, says-made}
 use Rattle.demands.proofs.Session.{session-link}
@@ -91,10 +89,6 @@ module _ (l : Link) (e : Event) where
   abbrev Damages : Run → Move → Type 0
   Damages s m = m .number ≡ damageReport → Loses l e (reportOf s (m .number) (m .reason))
 
-  off-second : (a b : Bool) → (a && b) ≡ false → a ≡ true → b ≡ false
-  off-second true b n t = n
-  off-second false b n t = absurd (false≢true t)
-
   rule : (k : Moment) → Reached e k → (s : Run) (m : Move) → Rule (l .mark) e (s .phase) k m → S k s → S (next k) (moved s m) × Damages s m
   unfolding next moved told settled talking down isOpen
   rule at-silence w s m (rests u) q = (λ o. (q, off-second (isOpen (s .phase .state)) (isSilent gap) u o), λ z. absurd (omega arith))
@@ -132,16 +126,11 @@ module _ (l : Link) (e : Event) where
   abbrev IsLoss : Report → Type 0
   IsLoss x = x .number ≡ damageReport → Loses l e x
 
-  move-losses : (s : Run) (m : Move) → Damages s m → Each IsLoss (tells s m)
-  unfolding tells reportOf
-  move-losses s m f =
-      by-test (Each IsLoss) (eqb (m .number) 0) {x = []} {y = reportOf s (m .number) (m .reason) ∷ []} (λ _. each-none IsLoss) (λ _. each-one IsLoss _ f)
-
   all-loses : Each IsLoss (handledTells l e)
-  unfolding handledTells
+  unfolding handledTells reportOf
   all-loses =
       event-walk-by (l .mark) e (λ k s xs. S k s × Each IsLoss xs)
-      (λ k w s xs m u i. let x = rule k w s m u (i .0) in (x .0, each-both IsLoss xs (tells s m) (i .1) (move-losses s m (x .1))))
+      (λ k w s xs m u i. let x = rule k w s m u (i .0) in (x .0, each-both IsLoss xs (tells s m) (i .1) (tells-each IsLoss s m (λ _. x .1))))
       (λ _ s xs i. (tt, i .1)) (λ _ s xs i. (tt, i .1)) (λ _ s xs i. (tt, i .1)) r (refl, each-none IsLoss) .1
 
   -- ---- and the other way round

@@ -2,34 +2,32 @@
 -- it is shown what `Shows` says.
 -- Assumes nothing.
 use Prim.Native.Nat.{ℕ, _+_}
-use mathlib.Core.Bool.{Bool, true, false, not, _&&_, _||_, false≢true}
-use mathlib.Core.List.{List, [], _∷_, _++_}
+use mathlib.Core.Bool.{Bool, true, false, _||_, false≢true}
+use mathlib.Core.List.{List, _∷_, _++_, append-nil}
 use mathlib.Core.Path.{_≡_, refl, sym, ap, _∙_, subst}
 use mathlib.Core.Logic.{_↔_, _⊎_, ⊎-elim}
 use native.Mathlib.Omega.{arith}
 use lib.ListN.{length, drop}
 use Rattle.base.specs.Choice.{if_then_else_}
-use Rattle.base.specs.Reports.{frameReport, damageReport, noReplyReport, downReport, noReason, brokenOff, early, stray, stopped, idleOver}
-use Rattle.base.proofs.Tests.{and-split, by-test}
+use Rattle.base.specs.Reports.{frameReport, damageReport, noReplyReport, downReport, noReason, brokenOff, closed, early, stray, stopped, idleOver}
 use Rattle.units.specs.Units.{gapOf}
 use Rattle.units.specs.declared.Micros.{Micros}
 use Rattle.keys.specs.declared.Pair.{Pair}
-use Rattle.timing.specs.Timing.{isPassed}
 use Rattle.frame.specs.Read.{dataOf}
 use Rattle.events.specs.declared.Side.{Side}
 use Rattle.events.specs.declared.Side.the-variants.{Unit}
 use Rattle.events.specs.declared.Event.{Event}
-use Rattle.starts.specs.Starts.{isOver}
-use Rattle.talk.specs.Talk.{isFirst, headReason, firstReason}
+use Rattle.talk.specs.Talk.{headReason, firstReason}
 use Rattle.talk.specs.Talk.{begun as opening-message}
 use Rattle.talk.specs.declared.Reply.{Reply}
 use Rattle.talk.specs.declared.Reply.the-variants.{Never}
 use Rattle.phases.specs.Phases.{isStarting, isQuiet, isHeld, isOpen, isConnected, down, talking, settled}
-use Rattle.phases.specs.declared.State.{State}
-use Rattle.phases.specs.declared.State.the-variants.{Down, Starting, Quiet, Held, Damage}
 use Rattle.phases.specs.declared.Phase.{Phase}
-use Rattle.moves.specs.Moves.{still, makes, lossReason, isSilent, afterSilence, afterP2, afterP3, sinceOrigin, afterWindow}
+use Rattle.phases.proofs.StateTests.{never-starting, quiet-is, starting-is}
+use Rattle.moves.specs.Moves.{still, makes, lossReason, afterSilence, afterP2, afterP3}
 use Rattle.moves.specs.declared.Move.{Move}
+use Rattle.moves.proofs.Rules.{Moment, at-silence, at-p2, at-p3, at-window, at-closing, at-leaving, Closes, by-drop, by-address, by-wake-up, Unmoved, Rule, rests}
+use Rattle.moves.proofs.Rules.{breaks-off, waited, idled, expires, cuts-off, aborts, leaves, by-silence, by-p2, by-p3, by-window, one-move}
 use Rattle.reports.specs.Reporting.{namesBytes, reportOf, told, moved}
 use Rattle.reports.specs.declared.Report.{Report}
 use Rattle.reports.specs.declared.Run.{Run}
@@ -135,23 +133,6 @@ module _ (es : Log) (e : Event) (t : Talk) (p : Phase) (named : ℕ) (same : hea
     opened = λ o. opened-more (f o) (a .opened o);
   }
 
--- ---- states
-pub open-or-quiet : (st : State) → isConnected st ≡ true → isOpen st ≡ false → isQuiet st ≡ true
-unfolding isConnected isOpen isQuiet
-open-or-quiet Down c o = c
-open-or-quiet Starting c o = c
-open-or-quiet Quiet c o = refl
-open-or-quiet Held c o = sym o
-open-or-quiet Damage c o = sym o
-
-pub never-starting : (st : State) → isConnected st ≡ true → isStarting st ≡ true → ⊥
-unfolding isConnected isStarting
-never-starting Down c s = false≢true c
-never-starting Starting c s = false≢true c
-never-starting Quiet c s = false≢true s
-never-starting Held c s = false≢true s
-never-starting Damage c s = false≢true s
-
 -- ---- what is shown of a report of an event
 -- among these reports of an event from this side is a frame from the unit that answers a stop
 pub record Answers (pair : Pair) (fs : Frames) (side : Side) (heard : List ℕ) (rs : List Report) : Type 0 where
@@ -200,9 +181,9 @@ module _ (es : Log) (e : Event) (all : List Report) where
     gone : isAmong downReport rs ≡ true → Each (Told t) rs → r .phase ≡ down → Passes t rs r
 
   -- a move that makes no report
-  pub rests : (t : Talk) (r : Run) → At es t (r .phase) (r .named) (r .heard) → Passes t (tells r (still (r .phase))) (moved r (still (r .phase)))
+  stays : (t : Talk) (r : Run) → At es t (r .phase) (r .named) (r .heard) → Passes t (tells r (still (r .phase))) (moved r (still (r .phase)))
   unfolding tells moved isAmong talkAfter
-  rests t r a = up (t .reply) refl (each-none (Told t)) refl a
+  stays t r a = up (t .reply) refl (each-none (Told t)) refl a
 
   -- nothing is open, and no reply is expected
   settled-at : (t : Talk) (p : Phase) (named named′ heard : ℕ) → At es t p named heard → named′ ≡ heard
@@ -265,15 +246,7 @@ module _ (es : Log) (e : Event) (all : List Report) where
       up Never refl (each-one (Told t) _ (damage-told t r why h k (a .opened o))) refl
       (settled-at t (r .phase) (r .named) (r .heard) (r .heard) a refl)
 
-  -- ---- time passes
-  silence-step : (t : Talk) (r : Run) (gap : Micros) → At es t (r .phase) (r .named) (r .heard)
-      → Passes t (tells r (afterSilence (r .phase) gap)) (moved r (afterSilence (r .phase) gap))
-  unfolding afterSilence
-  silence-step t r gap a =
-      by-test (λ (m : Move). Passes t (tells r m) (moved r m)) (isOpen (r .phase .state) && isSilent gap)
-      (λ c. damage-ends t r brokenOff (λ z. omega arith) (λ z. omega arith) a (and-split (isOpen (r .phase .state)) (isSilent gap) c .0))
-      (λ _. rests t r a)
-
+  -- ---- reports 6 and 7
   no-reply : (t : Talk) (r : Run) → At es t (r .phase) (r .named) (r .heard) → isQuiet (r .phase .state) ≡ true
       → Passes t (tells r (makes noReplyReport noReason (settled (r .phase)))) (moved r (makes noReplyReport noReason (settled (r .phase))))
   unfolding tells moved told reportOf namesBytes isAmong talkAfter afterReport
@@ -281,47 +254,47 @@ module _ (es : Log) (e : Event) (all : List Report) where
       up Never refl (each-one (Told t) _ (plain t _ (λ n. omega arith) (λ n. omega arith) (λ n. absurd (omega arith)))) refl
       (settled-at t (r .phase) (r .named) (r .named) (r .heard) a (a .calm q))
 
-  p2-step : (t : Talk) (r : Run) (gap : Micros) → At es t (r .phase) (r .named) (r .heard)
-      → Passes t (tells r (afterP2 (r .phase) gap)) (moved r (afterP2 (r .phase) gap))
-  unfolding afterP2
-  p2-step t r gap a =
-      by-test (λ (m : Move). Passes t (tells r m) (moved r m))
-      (isQuiet (r .phase .state) && isFirst (r .phase .reply) && isPassed (r .phase .windows .p2max) gap)
-      (λ c. no-reply t r a (and-split (isQuiet (r .phase .state)) (isFirst (r .phase .reply)) (and-split _ _ c .0) .0)) (λ _. rests t r a)
-
-  pub goes-down : (t : Talk) (r : Run) (reason : ℕ) → (reason ≡ stopped → ⊥)
+  goes-down : (t : Talk) (r : Run) (reason : ℕ) → (reason ≡ stopped → ⊥)
       → Passes t (tells r (makes downReport reason down)) (moved r (makes downReport reason down))
   unfolding tells moved told reportOf isAmong
   goes-down t r reason h = gone refl (each-one (Told t) _ (plain t _ (λ n. omega arith) (λ n. omega arith) (λ n. h))) refl
 
-  p3-step : (t : Talk) (r : Run) (gap : Micros) → At es t (r .phase) (r .named) (r .heard)
-      → Passes t (tells r (afterP3 (r .phase) gap)) (moved r (afterP3 (r .phase) gap))
-  unfolding afterP3
-  p3-step t r gap a =
-      by-test (λ (m : Move). Passes t (tells r m) (moved r m))
-      (isQuiet (r .phase .state) && not (isFirst (r .phase .reply)) && isPassed (r .phase .windows .p3max) gap)
-      (λ _. goes-down t r idleOver (λ z. omega arith)) (λ _. rests t r a)
+  -- ---- THE RULES up to where all that is open is closed, in a session
+  module _ (mark : Micros) where
+    abbrev pub Moves : Moment → Type 0
+    Moves k = (t : Talk) (r : Run) (m : Move) → Rule mark e (r .phase) k m → At es t (r .phase) (r .named) (r .heard) → Passes t (tells r m) (moved r m)
 
-  window-step : (t : Talk) (r : Run) (mark time : Micros) → At es t (r .phase) (r .named) (r .heard)
-      → Passes t (tells r (afterWindow (r .phase) mark time)) (moved r (afterWindow (r .phase) mark time))
-  unfolding afterWindow
-  window-step t r mark time a =
-      by-test (λ (m : Move). Passes t (tells r m) (moved r m))
-      (isStarting (r .phase .state) && isOver (r .phase .start) (sinceOrigin (r .phase) mark time))
-      (λ c. absurd (never-starting (r .phase .state) (a .fits .connected) (and-split (isStarting (r .phase .state)) _ c .0))) (λ _. rests t r a)
+    silence-rule : Moves at-silence
+    silence-rule t r m (rests u) a = stays t r a
+    silence-rule t r m (breaks-off o s) a = damage-ends t r brokenOff (λ z. omega arith) (λ z. omega arith) a o
 
-  -- ---- one move behind another
-  -- a link that is down rests
-  pub record Rests (r : Run) (m : Move) : Type 0 where
-    pub silent : tells r m ≡ []
-    pub still-down : moved r m .phase ≡ down
+    p2-rule : Moves at-p2
+    p2-rule t r m (rests u) a = stays t r a
+    p2-rule t r m (waited q f s) a = no-reply t r a (quiet-is q)
 
-  pub down-rests : (r : Run) (f : Phase → Move) → f down ≡ still down → r .phase ≡ down → Rests r (f (r .phase))
-  unfolding tells moved
-  down-rests r f d q =
-      let s : f (r .phase) ≡ still down = ap f q ∙ d in
-      record { silent = ap (tells r) s; still-down = ap (λ (m : Move). moved r m .phase) s }
+    p3-rule : Moves at-p3
+    p3-rule t r m (rests u) a = stays t r a
+    p3-rule t r m (idled q f s) a = goes-down t r idleOver (λ z. omega arith)
 
+    window-rule : Moves at-window
+    window-rule t r m (rests u) a = stays t r a
+    window-rule t r m (expires s o) a = absurd (never-starting (r .phase .state) (a .fits .connected) (starting-is s))
+
+    pub closing-rule : Moves at-closing
+    closing-rule t r m (rests u) a = stays t r a
+    closing-rule t r m (cuts-off o) a = damage-ends t r closed (λ z. omega arith) (λ z. omega arith) a o
+    closing-rule t r m (aborts s) a = absurd (never-starting (r .phase .state) (a .fits .connected) (starting-is s))
+
+    not-stopped : {reason : ℕ} → Closes e reason → reason ≡ stopped → ⊥
+    not-stopped (by-drop k) z = omega arith
+    not-stopped (by-address k) z = omega arith
+    not-stopped (by-wake-up k) z = omega arith
+
+    pub leaving-rule : Moves at-leaving
+    leaving-rule t r m (rests u) a = stays t r a
+    leaving-rule t r m (leaves c q) a = goes-down t r _ (not-stopped c)
+
+  -- ---- one move after another
   or-first : (a b : Bool) → a ≡ true → (a || b) ≡ true
   or-first true b h = refl
   or-first false b h = absurd (false≢true h)
@@ -346,42 +319,33 @@ module _ (es : Log) (e : Event) (all : List Report) where
       → talked t (rs ++ ss) ≡ talked (withReply t reply) ss
   talked-both t reply rs ss q = talk-both t (takenOf (es ▷ e)) rs ss ∙ ap (λ (u : Talk). talked u ss) q
 
-  pub next : (t : Talk) (rs : List Report) (r : Run) (m : Move) → Passes t rs r
-      → ((u : Talk) → At es u (r .phase) (r .named) (r .heard) → Passes u (tells r m) (moved r m)) → (r .phase ≡ down → Rests r m)
-      → Passes t (rs ++ tells r m) (moved r m)
-  next t rs r m (up reply n f q a) s d = on (s (withReply t reply) a)
+  gone-on : (t : Talk) (rs : List Report) (r : Run) → Passes t rs r → Passes t (rs ++ tells r (still (r .phase))) (moved r (still (r .phase)))
+  unfolding tells moved
+  gone-on t rs r p = subst (λ (xs : List Report). Passes t xs r) (sym (append-nil rs)) p
+
+  -- a link that is down rests
+  pub next : (mark : Micros) (k : Moment) → Moves mark k → Unmoved mark e down k → (t : Talk) (rs : List Report) (r : Run) (m : Move)
+      → Rule mark e (r .phase) k m → Passes t rs r → Passes t (rs ++ tells r m) (moved r m)
+  next mark k f d t rs r m u (up reply n g q a) = on (f (withReply t reply) r m u a)
     where
       on : Passes (withReply t reply) (tells r m) (moved r m) → Passes t (rs ++ tells r m) (moved r m)
-      on (up again k g p b) = up again (says-none rs (tells r m) n k) (each-both (Told t) rs (tells r m) f g)
-          (talked-both t reply rs (tells r m) q ∙ p) b
-      on (gone k g p) = gone (says-second rs (tells r m) k) (each-both (Told t) rs (tells r m) f g) p
-  next t rs r m (gone n f q) s d =
-      let x = d q in
-      gone (says-first rs (tells r m) n) (each-both (Told t) rs (tells r m) f (subst (Each (Told t)) (sym (x .silent)) (each-none (Told t))))
-      (x .still-down)
-
-  p2-down : (gap : Micros) → afterP2 down gap ≡ still down
-  unfolding afterP2 down isQuiet
-  p2-down gap = refl
-
-  p3-down : (gap : Micros) → afterP3 down gap ≡ still down
-  unfolding afterP3 down isQuiet
-  p3-down gap = refl
-
-  window-down : (mark time : Micros) → afterWindow down mark time ≡ still down
-  unfolding afterWindow down isStarting
-  window-down mark time = refl
+      on (up again o h p b) =
+          up again (says-none rs (tells r m) n o) (each-both (Told t) rs (tells r m) g h) (talked-both t reply rs (tells r m) q ∙ p) b
+      on (gone o h p) = gone (says-second rs (tells r m) o) (each-both (Told t) rs (tells r m) g h) p
+  next mark k f d t rs r m u (gone n g q) =
+      subst (λ (x : Move). Passes t (rs ++ tells r x) (moved r x))
+      (one-move mark e (r .phase) (rests (subst (λ (p : Phase). Unmoved mark e p k) (sym q) d)) u) (gone-on t rs r (gone n g q))
 
   -- TIME PASSES IN A SESSION
-  pub passed-step : (t : Talk) (r : Run) (mark start : Micros) → At es t (r .phase) (r .named) (r .heard)
-      → Passes t (passedTells r mark start) (passed r mark start)
-  unfolding passedTells passed
-  passed-step t r mark start a =
-      let gap = gapOf mark start in
+  pub passed-step : (t : Talk) (r : Run) (mark : Micros) → At es t (r .phase) (r .named) (r .heard)
+      → Passes t (passedTells r mark (e .start)) (passed r mark (e .start))
+  unfolding passedTells passed down isQuiet isStarting
+  passed-step t r mark a =
+      let gap = gapOf mark (e .start) in
       let r1 = moved r (afterSilence (r .phase) gap) in
       let r2 = moved r1 (afterP2 (r1 .phase) gap) in
       let r3 = moved r2 (afterP3 (r2 .phase) gap) in
-      let s1 = silence-step t r gap a in
-      let s2 = next t _ r1 _ s1 (λ u b. p2-step u r1 gap b) (down-rests r1 (λ (p : Phase). afterP2 p gap) (p2-down gap)) in
-      let s3 = next t _ r2 _ s2 (λ u b. p3-step u r2 gap b) (down-rests r2 (λ (p : Phase). afterP3 p gap) (p3-down gap)) in
-      next t _ r3 _ s3 (λ u b. window-step u r3 mark start b) (down-rests r3 (λ (p : Phase). afterWindow p mark start) (window-down mark start))
+      let s1 = silence-rule mark t r _ (by-silence mark e (r .phase)) a in
+      let s2 = next mark at-p2 (p2-rule mark) refl t _ r1 _ (by-p2 mark e (r1 .phase)) s1 in
+      let s3 = next mark at-p3 (p3-rule mark) refl t _ r2 _ (by-p3 mark e (r2 .phase)) s2 in
+      next mark at-window (window-rule mark) refl t _ r3 _ (by-window mark e (r3 .phase)) s3

@@ -2,12 +2,12 @@
 -- says (`Ends`), and a unit frame that answers a stop ends the session.
 -- Assumes nothing.
 use Prim.Native.Nat.{ℕ, _+_, _-_, _≤_, _<_}
-use mathlib.Core.Bool.{Bool, true, false, not, _&&_, _||_, false≢true}
+use mathlib.Core.Bool.{Bool, true, false, not, _||_, false≢true}
 use mathlib.Core.List.{List, [], _∷_, _++_, append-nil, append-assoc}
 use mathlib.Core.Path.{_≡_, refl, sym, ap, ap₂, _∙_, subst}
 use mathlib.Core.Logic.{_↔_, ⊎-elim}
 use native.Mathlib.Omega.{arith}
-use borrow.Author.Tests.{eq-eqb, eqb-true, eqb-false, not-true, not-false}
+use borrow.Author.Tests.{eq-eqb, eqb-true, eqb-false}
 use lib.Dec.{eqb}
 use lib.ListN.{length, getD, take, drop, length-append, length-drop}
 use lib.Seq.{take-all, drop-append-le, drop-at, getD-drop}
@@ -15,7 +15,7 @@ use Rattle.base.specs.Choice.{if_then_else_}
 use Rattle.base.specs.Numbers.{taken}
 use Rattle.base.specs.Sums.{countSum}
 use Rattle.base.specs.Reports.{frameReport, outsideReport, downReport, noReason, early, stray, otherSide, stopped}
-use Rattle.base.proofs.Tests.{and-split, by-test}
+use Rattle.base.proofs.Tests.{by-test}
 use Rattle.units.specs.Units.{gapOf}
 use Rattle.units.specs.declared.Micros.{Micros}
 use Rattle.timing.specs.Timing.{setOf, decodedOf}
@@ -37,16 +37,19 @@ use Rattle.talk.specs.declared.Request.the-variants.{Ordinary, Stop, OwnTiming,
 use Rattle.talk.specs.declared.Message.{Message}
 use Rattle.talk.specs.Messages.{endsIn, isMessage}
 use Rattle.phases.specs.Phases.{isQuiet, isHeld, isOpen, isConnected, down, talking, holding, damaged, timed, asked, answered, framed}
-use Rattle.phases.specs.declared.State.{State}
-use Rattle.phases.specs.declared.State.the-variants.{Down, Starting, Quiet, Held, Damage}
+use Rattle.phases.specs.declared.State.the-variants.{Quiet, Damage}
 use Rattle.phases.specs.declared.Phase.{Phase}
-use Rattle.moves.specs.Moves.{still, makes, lossReason, reasonAtFirst, firstByte, laterByte, byteIn, afterByte, afterStop}
+use Rattle.phases.proofs.StateTests.{quiet-is}
+use Rattle.moves.specs.Moves.{still, makes, lossReason, reasonAtFirst}
 use Rattle.moves.specs.declared.Move.{Move}
-use Rattle.reports.specs.Reporting.{namesBytes, reportOf, told, withPhase, moved}
+use Rattle.moves.proofs.Rules.{at-byte, at-stop, Rule, rests, strays, misses, connects, goes-on, opens, errs, breaks, frames, one-move}
+use Rattle.moves.proofs.Rules.{stops as stopped-by}
+use Rattle.moves.proofs.Rules.{grows as lengthens}
+use Rattle.reports.specs.Reporting.{namesBytes, reportOf, told, moved}
 use Rattle.reports.specs.declared.Report.{Report}
 use Rattle.reports.specs.declared.Run.{Run}
-use Rattle.link.specs.Handling.{hearing, byteHeard}
-use Rattle.link.specs.Telling.{tells, byteTells}
+use Rattle.link.specs.Handling.{hearing}
+use Rattle.link.specs.Telling.{tells}
 use Rattle.demands.specs.Logs.{Log, _▷_, markOf, bytesOf, heardIn, numberAfter, takenOf, whole, more}
 use Rattle.demands.specs.Editions.{isFrame}
 use Rattle.demands.specs.Histories.{after, isAmong, Among, first, later, Tells}
@@ -62,6 +65,7 @@ use Rattle.demands.proofs.Tiling.{sum-is}
 use Rattle.demands.proofs.Listening.{Bytes, byte-longer, begins-longer}
 use Rattle.demands.proofs.Saying.{Each, each-none, each-one, each-both}
 use Rattle.demands.proofs.Reasons.{same-is, has-side, first-early, first-stray, first-else, first-head, later-elsewhere}
+use Rattle.demands.proofs.Passing.{off-second}
 use Rattle.demands.proofs.Going.{Fits, Holds, reasonWith, Opened, At, Told, plain, turned}
 use Rattle.demands.proofs.Closing.{Ends, still-up, over}
 use Rattle.demands.specs.Ours.{ours}
@@ -157,25 +161,24 @@ module _ (es : Log) (e : Event) (all : List Report) (kind : e .kind ≡ Byte) (n
       let y = length-append (heardIn es) (e .value ∷ []) in
       omega arith
 
-  -- the byte's move, and then a stop
-  abbrev heardTells : Run → Move → List Report
-  heardTells r m = tells (hearing r) m ++ tells (moved (hearing r) m) (afterStop (moved (hearing r) m .phase))
+  -- the byte's move m, and then that of a stop, n
+  abbrev pub heardTells : Run → Move → Move → List Report
+  heardTells r m n = tells (hearing r) m ++ tells (moved (hearing r) m) n
 
-  abbrev heardRun : Run → Move → Run
-  heardRun r m = moved (moved (hearing r) m) (afterStop (moved (hearing r) m .phase))
+  abbrev pub heardRun : Run → Move → Move → Run
+  heardRun r m n = moved (moved (hearing r) m) n
 
   abbrev Heard : Talk → Run → Move → Type 0
-  Heard t r m = Each (λ (x : Report). Among x all) (heardTells r m) → Ends es e all t (heardTells r m) (heardRun r m)
+  Heard t r m = (n : Move) → Rule mark e (moved (hearing r) m .phase) at-stop n → Each (λ (x : Report). Among x all) (heardTells r m n)
+      → Ends es e all t (heardTells r m n) (heardRun r m n)
 
   -- a byte that makes no report
   silent-byte : (t : Talk) (r : Run) (q : Phase) → isQuiet (q .state) ≡ false
       → (Session ours (es ▷ e) t → after ours (es ▷ e) .link .named ≡ r .named → At (es ▷ e) t q (r .named) (countSum (r .heard) 1))
       → Heard t r (still q)
-  unfolding tells moved afterStop isAmong talkAfter
-  silent-byte t r q n f _ =
-      by-test (λ (m : Move). Ends es e all t ([] ++ tells (withPhase (hearing r) q) m) (moved (withPhase (hearing r) q) m))
-      (isQuiet (q .state) && isStopped (q .request))
-      (λ c. absurd (false≢true (sym n ∙ and-split (isQuiet (q .state)) _ c .0))) (λ _. still-up refl (each-none (Told es e all t)) f)
+  unfolding tells moved isAmong talkAfter
+  silent-byte t r q l f n (rests u) _ = still-up refl (each-none (Told es e all t)) f
+  silent-byte t r q l f n (stopped-by s x) _ = absurd (false≢true (sym l ∙ quiet-is s))
 
   -- ---- the first byte of a message
   module _ (t : Talk) (p : Phase) (named heard : ℕ) (a : At es t p named heard) (quiet : isQuiet (p .state) ≡ true) (s : Session ours (es ▷ e) t)
@@ -270,24 +273,6 @@ module _ (es : Log) (e : Event) (all : List Report) (kind : e .kind ≡ Byte) (n
           };
         }
 
-    first-at : At (es ▷ e) t (firstByte p (e .side) (e .value) (gapOf mark (e .start))) named (countSum heard 1)
-    unfolding firstByte
-    first-at =
-        by-test (λ (q : Phase). At (es ▷ e) t q named (countSum heard 1)) (eqb reason noReason) (λ c. first-held (eqb-true reason noReason c))
-        (λ c. first-damaged (eqb-false reason noReason c))
-
-  first-opens : (p : Phase) (gap : Micros) → isQuiet (firstByte p (e .side) (e .value) gap .state) ≡ false
-  unfolding firstByte holding damaged talking isQuiet
-  first-opens p gap =
-      let why = reasonAtFirst p (e .side) (e .value) gap in
-      by-test (λ (q : Phase). isQuiet (q .state) ≡ false) (eqb why noReason) {x = holding p (begun (e .side) (e .value))} {y = damaged p why}
-      (λ _. refl) (λ _. refl)
-
-  first-ends : (t : Talk) (r : Run) → At es t (r .phase) (r .named) (r .heard) → isQuiet (r .phase .state) ≡ true
-      → Heard t r (still (firstByte (r .phase) (e .side) (e .value) (gapOf mark (e .start))))
-  first-ends t r a q =
-      silent-byte t r _ (first-opens (r .phase) (gapOf mark (e .start))) (λ s n. first-at t (r .phase) (r .named) (r .heard) a q s n)
-
   -- ---- a later byte
   -- it joins the bytes that are open
   one-event : (t : Talk) (p : Phase) (named : ℕ) → Opened es t p named
@@ -337,10 +322,6 @@ module _ (es : Log) (e : Event) (all : List Report) (kind : e .kind ≡ Byte) (n
     opened = λ o. still-open t p p named (a .opened o) (λ x. x, λ x. x) (λ x. x, λ x. x) (λ _. rw (ap isHeld st) refl) (a .opened o .against)
         (λ h. absurd (false≢true (sym (ap isHeld st) ∙ h)));
   }
-
-  damage-ends : (t : Talk) (r : Run) → At es t (r .phase) (r .named) (r .heard) → r .phase .state ≡ Damage → Heard t r (still (r .phase))
-  unfolding isQuiet
-  damage-ends t r a st = silent-byte t r (r .phase) (ap isQuiet st) (λ _ _. skipped-at t (r .phase) (r .named) (r .heard) a st)
 
   -- a message goes on, is damaged, or ends
   module _ (t : Talk) (r : Run) (a : At es t (r .phase) (r .named) (r .heard)) (o : Opened es t (r .phase) (r .named))
@@ -598,24 +579,12 @@ module _ (es : Log) (e : Event) (all : List Report) (kind : e .kind ≡ Byte) (n
           (each-one (Told es e all t) x (frame-told (λ _ _. record { report = y q; made = i (y q) (later first); number-is = refl; reason-is = refl })))
           (each-one (Told es e all t) (y q) (stop-told q (i x first) u z))) refl
 
-      off-second : (b c : Bool) → (b && c) ≡ false → b ≡ true → c ≡ false
-      off-second true c n k = n
-      off-second false c n k = absurd (false≢true k)
-
-      frame-there : (q : Phase) → behindFrame q .phase ≡ q
-      unfolding moved told
-      frame-there q = refl
-
       -- by whether a stop was answered
       frame-by : (q : Phase) → q .state ≡ Quiet → (isStopped (q .request) ≡ true → (e .side ≡ Unit) × Stops)
           → (isStopped (q .request) ≡ false → Fits withFrame q × (e .side ≡ Unit → Stops → ⊥)) → Heard t r (makes frameReport noReason q)
-      unfolding moved told afterStop isQuiet
-      frame-by q st f g =
-          by-test (λ (m : Move). Each (λ (z : Report). Among z all) (tells (hearing r) (makes frameReport noReason q) ++ tells (behindFrame q) m)
-          → Ends es e all t (tells (hearing r) (makes frameReport noReason q) ++ tells (behindFrame q) m) (moved (behindFrame q) m))
-          (isQuiet (q .state) && isStopped (q .request)) {x = makes downReport stopped down} {y = still q}
-          (λ c i. let k = f (and-split (isQuiet (q .state)) (isStopped (q .request)) c .1) in frame-over q (k .0) (k .1) i)
-          (λ c _. let k = g (off-second (isQuiet (q .state)) (isStopped (q .request)) c (ap isQuiet st)) in frame-on q st (k .0) (k .1))
+      unfolding moved told
+      frame-by q st f g n (rests u) _ = let k = g (off-second (isQuiet (q .state)) (isStopped (q .request)) u (quiet-is st)) in frame-on q st (k .0) (k .1)
+      frame-by q st f g n (stopped-by s x) i = let k = f x in frame-over q (k .0) (k .1) i
 
       frame-asked : isTester (e .side) ≡ true → Heard t r (makes frameReport noReason (asked (r .phase)))
       unfolding asked timed talking
@@ -639,66 +608,40 @@ module _ (es : Log) (e : Event) (all : List Report) (kind : e .kind ≡ Byte) (n
           by-test (λ (q : Phase). Heard t r (makes frameReport noReason q)) (isTester (r .phase .message .side))
           {x = asked (r .phase)} {y = answered (r .phase)} (λ c. frame-asked (s ∙ c)) (λ c. frame-answered (s ∙ c))
 
-    holding-open : (m : Message) → isQuiet (holding (r .phase) m .state) ≡ false
-    unfolding holding talking isQuiet
-    holding-open m = refl
-
-    damaged-open : (why : ℕ) → isQuiet (damaged (r .phase) why .state) ≡ false
-    unfolding damaged talking isQuiet
-    damaged-open why = refl
-
-    -- ANY LATER BYTE OF A MESSAGE
-    later-ends : Heard t r (laterByte (r .phase) (e .side) (e .value))
-    unfolding laterByte
-    later-ends =
-        let m = r .phase .message in
-        by-test (λ (x : Move). Heard t r x) (not (eqb wrong noReason)) {x = still (damaged (r .phase) wrong)}
-        (λ c. silent-byte t r (damaged (r .phase) wrong) (damaged-open wrong) (λ _ _. later-damaged (eqb-false wrong noReason (not-true (eqb wrong noReason) c))))
-        (λ c.
-        let z = eqb-true wrong noReason (not-false (eqb wrong noReason) c) in
-        by-test (λ (x : Move). Heard t r x) (isSum (m .part)) {x = makes frameReport noReason (framed (r .phase))}
-        {y = still (holding (r .phase) (grown m (e .value)))}
-        (λ s. frame-ends z s) (λ s. silent-byte t r (holding (r .phase) (grown m (e .value))) (holding-open (grown m (e .value)))
-        (λ _ _. later-held z s)))
-
   -- ---- ANY BYTE OF A SESSION
-  byte-in : (st : State) (t : Talk) (r : Run) → (isOpen (r .phase .state) ≡ true → InTime (takenOf es) e) → r .phase .state ≡ st
-      → At es t (r .phase) (r .named) (r .heard)
-      → Heard t r (byteIn st (r .phase) (e .side) (e .value) mark (e .start))
-  unfolding isConnected isQuiet isHeld isOpen
-  byte-in Down t r f st a = absurd (false≢true (sym (ap isConnected st) ∙ a .fits .connected))
-  byte-in Starting t r f st a = absurd (false≢true (sym (ap isConnected st) ∙ a .fits .connected))
-  byte-in Quiet t r f st a = first-ends t r a (ap isQuiet st)
-  byte-in Held t r f st a = later-ends t r a (a .opened (ap isOpen st)) (ap isHeld st) (f (ap isOpen st))
-  byte-in Damage t r f st a = damage-ends t r a st
-
-  pub byte-ends : (t : Talk) (r : Run) → (isOpen (r .phase .state) ≡ true → InTime (takenOf es) e) → At es t (r .phase) (r .named) (r .heard)
-      → Each (λ (x : Report). Among x all) (byteTells r e mark)
-      → Ends es e all t (byteTells r e mark) (byteHeard r e mark)
-  unfolding byteTells byteHeard afterByte
-  byte-ends t r f a = byte-in (r .phase .state) t r f refl a
+  pub byte-ends : (t : Talk) (r : Run) (m : Move) → Rule mark e (r .phase) at-byte m → (isOpen (r .phase .state) ≡ true → InTime (takenOf es) e)
+      → At es t (r .phase) (r .named) (r .heard) → Heard t r m
+  unfolding holding damaged talking isConnected isQuiet isHeld isOpen
+  byte-ends t r m (rests d) f a = silent-byte t r (r .phase) (ap isQuiet d) (λ _ _. skipped-at t (r .phase) (r .named) (r .heard) a d)
+  byte-ends t r m (strays d) f a = absurd (false≢true (sym (ap isConnected d) ∙ a .fits .connected))
+  byte-ends t r m (misses d v) f a = absurd (false≢true (sym (ap isConnected d) ∙ a .fits .connected))
+  byte-ends t r m (connects d v z) f a = absurd (false≢true (sym (ap isConnected d) ∙ a .fits .connected))
+  byte-ends t r m (goes-on d v z) f a = absurd (false≢true (sym (ap isConnected d) ∙ a .fits .connected))
+  byte-ends t r m (opens q w) f a =
+      silent-byte t r (m .phase) refl (λ s n. first-held t (r .phase) (r .named) (r .heard) a (quiet-is q) s n (eqb-true _ noReason w))
+  byte-ends t r m (errs q w) f a =
+      silent-byte t r (m .phase) refl (λ s n. first-damaged t (r .phase) (r .named) (r .heard) a (quiet-is q) s n (eqb-false _ noReason w))
+  byte-ends t r m (breaks h w) f a =
+      silent-byte t r (m .phase) refl (λ _ _. later-damaged t r a (a .opened (ap isOpen h)) (ap isHeld h) (f (ap isOpen h)) (eqb-false _ noReason w))
+  byte-ends t r m (frames h w z) f a = frame-ends t r a (a .opened (ap isOpen h)) (ap isHeld h) (f (ap isOpen h)) (eqb-true _ noReason w) z
+  byte-ends t r m (lengthens h w z) f a =
+      silent-byte t r (m .phase) refl (λ _ _. later-held t r a (a .opened (ap isOpen h)) (ap isHeld h) (f (ap isOpen h)) (eqb-true _ noReason w) z)
 
   -- a byte of a link that is down
-  record Outside (t : Talk) (r : Run) (m : Move) : Type 0 where
-    each : Each (Told es e all t) (heardTells r m)
-    off : isConnected (heardRun r m .phase .state) ≡ false
+  abbrev Outside : Talk → Run → Move → Type 0
+  Outside t r m = (n : Move) → Rule mark e (moved (hearing r) m .phase) at-stop n
+      → Each (Told es e all t) (heardTells r m n) × (isConnected (heardRun r m n .phase .state) ≡ false)
 
   outside : (t : Talk) (r : Run) → Outside t r (makes outsideReport noReason down)
-  unfolding tells moved told reportOf afterStop down isQuiet isConnected
-  outside t r = record {
-    each = each-both (Told es e all t) (_ ∷ []) []
+  unfolding tells moved told reportOf down isQuiet isConnected
+  outside t r n (rests u) = (
+    each-both (Told es e all t) (_ ∷ []) []
         (each-one (Told es e all t) _ (plain es e all t _ (λ n. omega arith) (λ n. omega arith) (λ n. absurd (omega arith))))
-        (each-none (Told es e all t));
-    off = refl;
-  }
+        (each-none (Told es e all t)),
+    refl,
+  )
+  outside t r n (stopped-by s x) = absurd (false≢true (ap isQuiet s))
 
-  byte-down : afterByte down (e .side) (e .value) mark (e .start) ≡ makes outsideReport noReason down
-  unfolding afterByte down
-  byte-down = refl
-
-  pub byte-outside : (t : Talk) (r : Run) → r .phase ≡ down
-      → Each (Told es e all t) (byteTells r e mark) × (isConnected (byteHeard r e mark .phase .state) ≡ false)
-  unfolding byteTells byteHeard
-  byte-outside t r q =
-      let x = subst (Outside t r) (sym (ap (λ (p : Phase). afterByte p (e .side) (e .value) mark (e .start)) q ∙ byte-down)) (outside t r) in
-      (x .each, x .off)
+  pub byte-outside : (t : Talk) (r : Run) (m : Move) → Rule mark e (r .phase) at-byte m → r .phase ≡ down → Outside t r m
+  unfolding down
+  byte-outside t r m u q = subst (Outside t r) (one-move mark e (r .phase) (strays (ap (λ (p : Phase). p .state) q)) u) (outside t r)

@@ -21,7 +21,7 @@ use Rattle.events.specs.declared.Event.{Event}
 use Rattle.talk.specs.Talk.{isFirst}
 use Rattle.talk.specs.declared.Reply.{Reply}
 use Rattle.talk.specs.declared.Reply.the-variants.{Never, First, Further}
-use Rattle.phases.specs.Phases.{isQuiet, isConnected}
+use Rattle.phases.specs.Phases.{isQuiet}
 use Rattle.moves.specs.Moves.{isIdle, isGoodLow}
 use Rattle.link.specs.declared.Link.{Link}
 use Rattle.listing.specs.Listing.{heldOf}

@@ -180,7 +180,7 @@ module _ (before : Log) (b : Event) (t : Talk) (i : InBytes before) (o : OpensIn
 
   passes : Passes before b (reportsTo ours before b) t passing s
   unfolding begun
-  passes = passed-step before b (reportsTo ours before b) t (begun l b) (l .mark) (b .start) at-link
+  passes = passed-step before b (reportsTo ours before b) t (begun l b) (l .mark) at-link
 
   pub opening : Opening before b t
   opening = by-way passes

@@ -50,7 +50,7 @@ long-silent l gap h p =
     let k = ltb-true (l .0 .0) (gap .0) (and-split (not (isUnlimited l)) (isEarlier (l .0) gap) p .1) in
     lt-ltb 20_000 (gap .0) (omega arith)
 
-off-second : (a b : Bool) → (a && b) ≡ false → a ≡ true → b ≡ false
+pub off-second : (a b : Bool) → (a && b) ≡ false → a ≡ true → b ≡ false
 off-second true b e t = e
 off-second false b e t = absurd (false≢true t)
 

@@ -117,7 +117,7 @@ unfolding tells
 tells-each P r m h =
     by-test (Each P) (eqb (m .number) 0) {x = []} {y = reportOf r (m .number) (m .reason) ∷ []} (λ _. each-none P) (λ z. each-one P _ (h z))
 
--- what holds of the number and the reason of a move's report, if it makes one, holds of the report
+-- by its number and reason
 abbrev pub EachOf : (ℕ → ℕ → Type 0) → List Report → Type 0
 EachOf C rs = Each (λ (x : Report). C (x .number) (x .reason)) rs
 
@@ -128,10 +128,8 @@ pub silent : (C : ℕ → ℕ → Type 0) (p : Phase) → Makes C (still p)
 silent C p z = absurd (false≢true (sym z))
 
 pub move-each : (C : ℕ → ℕ → Type 0) (r : Run) (m : Move) → Makes C m → EachOf C (tells r m)
-unfolding tells reportOf
-move-each C r m h =
-    by-test (EachOf C) (eqb (m .number) 0) {x = []} {y = reportOf r (m .number) (m .reason) ∷ []} (λ _. each-none (λ (x : Report). C (x .number) (x .reason)))
-    (λ z. each-one (λ (x : Report). C (x .number) (x .reason)) _ (h z))
+unfolding reportOf
+move-each C r m h = tells-each (λ (x : Report). C (x .number) (x .reason)) r m h
 
 -- ---- what they make of a talk
 pub talk-both : (t : Talk) (log : Log) (rs ss : List Report) → talkAfter t log (rs ++ ss) ≡ talkAfter (talkAfter t log rs) log ss

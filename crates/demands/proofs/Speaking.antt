@@ -2,7 +2,7 @@
 -- `read` takes its bytes is reported as a frame, and no other byte is (`frames-behind`).
 -- Assumes nothing.
 use Prim.Native.Nat.{ℕ, _+_, _-_, _≤_}
-use mathlib.Core.Bool.{Bool, true, false, not, false≢true}
+use mathlib.Core.Bool.{Bool, true, false, not, _&&_, false≢true}
 use mathlib.Core.List.{List, [], _∷_, _++_, append-assoc}
 use mathlib.Core.Path.{_≡_, refl, sym, ap, _∙_, subst, subst₂}
 use mathlib.Core.Logic.{_↔_}
@@ -23,16 +23,17 @@ use Rattle.events.specs.declared.Kind.{Kind}
 use Rattle.events.specs.declared.Kind.the-variants.{Byte, Tick}
 use Rattle.events.specs.declared.Side.{Side}
 use Rattle.events.specs.declared.Event.{Event}
-use Rattle.talk.specs.Talk.{headReason, firstReason, begun, laterReason, isSum, grown}
+use Rattle.talk.specs.Talk.{headReason, firstReason, begun, laterReason, isSum, grown, isStopped}
 use Rattle.talk.specs.declared.Part.{Part}
 use Rattle.talk.specs.declared.Message.{Message}
 use Rattle.talk.specs.Messages.{endsIn, isMessage}
 use Rattle.phases.specs.Phases.{isQuiet, isHeld, isOpen, talking, holding, framed}
-use Rattle.phases.specs.declared.State.{State}
-use Rattle.phases.specs.declared.State.the-variants.{Down, Starting, Quiet, Held, Damage}
 use Rattle.phases.specs.declared.Phase.{Phase}
-use Rattle.moves.specs.Moves.{still, makes, laterByte, byteIn, afterByte, afterStop}
+use Rattle.phases.proofs.StateTests.{is-held, open-or-quiet, held-open}
+use Rattle.moves.specs.Moves.{still, makes}
 use Rattle.moves.specs.declared.Move.{Move}
+use Rattle.moves.proofs.Rules.{at-byte, Rule, frames, by-byte, one-move}
+use Rattle.moves.proofs.Rules.{grows as lengthens}
 use Rattle.reports.specs.Reporting.{noReports, listed, namesBytes, reportOf, withPhase, moved}
 use Rattle.reports.specs.declared.Report.{Report}
 use Rattle.reports.specs.declared.Run.{Run}
@@ -53,12 +54,12 @@ use Rattle.demands.proofs.Behind.{Starts, Speaking, begins, refused, wa
 use Rattle.demands.proofs.Basics.{basics, answer-taken, answer-refused}
 use Rattle.demands.proofs.Carrying.{gone-ends, ends-now, message-frame}
 use Rattle.demands.proofs.Tiling.{sum-is}
-use Rattle.demands.proofs.Completing.{acted-byte, acted-tick}
+use Rattle.demands.proofs.Completing.{acted-byte, acted-tick, heard-move}
 use Rattle.demands.proofs.Listening.{Bytes, bytes-both, bytes-one, byte-more, byte-longer, other-more, refused-more, begins-longer}
 use Rattle.demands.proofs.Recent.{in-time, open-stays}
 use Rattle.demands.proofs.Saying.{among-left, among-right}
 use Rattle.demands.proofs.Reasons.{has-side, first-none}
-use Rattle.demands.proofs.Going.{Holds, Opened, open-or-quiet}
+use Rattle.demands.proofs.Going.{Holds, Opened}
 use Rattle.demands.proofs.Hearing.{within, grown-side}
 use Rattle.demands.proofs.Course.{AtLink, session-at}
 use Rattle.demands.proofs.Reporting.{frames-end}
@@ -129,22 +130,6 @@ stand-on log e t b bytes q u s = record {
   heard = (λ i. drop (u .named i) (q i)) ∙ s .heard;
   whose = ap (λ (p : Phase). p .message .side) (u .phase) ∙ s .whose;
 }
-
-held-open : (st : State) → isHeld st ≡ true → isOpen st ≡ true
-unfolding isHeld isOpen
-held-open Down h = h
-held-open Starting h = h
-held-open Quiet h = h
-held-open Held h = refl
-held-open Damage h = refl
-
-held-is : (st : State) → isHeld st ≡ true → st ≡ Held
-unfolding isHeld
-held-is Down h = absurd (false≢true h)
-held-is Starting h = absurd (false≢true h)
-held-is Quiet h = absurd (false≢true h)
-held-is Held h = refl
-held-is Damage h = absurd (false≢true h)
 
 -- a byte that ends a message in a frame
 ends-last : (side : Side) (m : Message) (v : ℕ) → endsIn side m (v ∷ []) ≡ true → (laterReason m side v ≡ noReason) × (isSum (m .part) ≡ true)
@@ -225,43 +210,27 @@ module _ (log : Log) (e : Event) (t : Talk) (b : Event) (bytes : List ℕ) (s : 
     later-is : laterReason message (e .side) (e .value) ≡ laterReason message (b .side) (e .value)
     later-is = ap (λ (x : Side). laterReason message x (e .value)) d
 
-    abbrev move : Move
-    move = afterByte (link .phase) (e .side) (e .value) (link .mark) (e .start)
+    abbrev At : Move → Type 0
+    At m = Rule (link .mark) e (link .phase) at-byte m
 
-    held-move : move ≡ laterByte (link .phase) (e .side) (e .value)
-    unfolding afterByte
-    held-move = ap (λ (st : State). byteIn st (link .phase) (e .side) (e .value) (link .mark) (e .start)) (held-is (link .phase .state) (s .held))
-
-    on-move : laterReason message (b .side) (e .value) ≡ noReason → isSum (message .part) ≡ false
-        → laterByte (link .phase) (e .side) (e .value) ≡ still (holding (link .phase) (grown message (e .value)))
-    unfolding laterByte
-    on-move w l = rw (eq-eqb (laterReason message (e .side) (e .value)) noReason (later-is ∙ w), l) refl
-
-    no-stop : (q : Phase) → isQuiet (q .state) ≡ false → afterStop q ≡ still q
-    unfolding afterStop
-    no-stop q h = rw h refl
-
-    heard-run : (q : Phase) → move ≡ still q → isQuiet (q .state) ≡ false
-        → byteHeard (begins-run link e) e (link .mark) ≡ withPhase (hearing (begins-run link e)) q
-    unfolding byteHeard begins-run moved
-    heard-run q m h =
-        let r = begins-run link e in
-        ap (λ (x : Move). moved (moved (hearing r) x) (afterStop (moved (hearing r) x .phase))) m
-        ∙ ap (λ (x : Move). moved (withPhase (hearing r) q) x) (no-stop q h)
+    right-byte : laterReason message (b .side) (e .value) ≡ noReason → eqb (laterReason message (e .side) (e .value)) noReason ≡ true
+    right-byte w = eq-eqb (laterReason message (e .side) (e .value)) noReason (later-is ∙ w)
 
     byte-run : handled link e ≡ byteHeard (begins-run link e) e (link .mark)
     unfolding handled
     byte-run = ap (λ (r : Run). acted r e (link .mark)) stays ∙ acted-byte (begins-run link e) e (link .mark) k
 
-    byte-unmoved : (q : Phase) → move ≡ still q → isQuiet (q .state) ≡ false → Unmoved log e q
-    unfolding begins-run
-    byte-unmoved q m h = taken-unmoved log e (withPhase (hearing (begins-run link e)) q) n (byte-run ∙ heard-run q m h) refl refl
+    byte-unmoved : (q : Phase) → At (still q) → isQuiet (q .state) ≡ false → Unmoved log e q
+    unfolding begins-run moved
+    byte-unmoved q u h =
+        taken-unmoved log e (withPhase (hearing (begins-run link e)) q) n
+        (byte-run ∙ heard-move (begins-run link e) e (link .mark) (still q) u (ap (λ (c : Bool). c && isStopped (q .request)) h)) refl refl
 
     goes-on : laterReason message (b .side) (e .value) ≡ noReason → isSum (message .part) ≡ false → Standing (log ▷ e) t b (bytes ++ (e .value ∷ []))
     unfolding holding talking isQuiet isHeld
     goes-on w l =
         let q = holding (link .phase) (grown message (e .value)) in
-        let u = byte-unmoved q (held-move ∙ on-move w l) refl in
+        let u = byte-unmoved q (lengthens (is-held (link .phase .state) (s .held)) (right-byte w) l) refl in
         record {
           session = session-on log e t q u (s .session);
           held = ap (λ (p : Phase). isHeld (p .state)) (u .phase);
@@ -273,19 +242,14 @@ module _ (log : Log) (e : Event) (t : Talk) (b : Event) (bytes : List ℕ) (s : 
         }
 
     -- a byte with which `read` takes the message: it is the checksum, and makes the report
-    frame-move : laterReason message (b .side) (e .value) ≡ noReason → isSum (message .part) ≡ true
-        → laterByte (link .phase) (e .side) (e .value) ≡ makes frameReport noReason (framed (link .phase))
-    unfolding laterByte
-    frame-move w l = rw (eq-eqb (laterReason message (e .side) (e .value)) noReason (later-is ∙ w), l) refl
-
     abbrev report : Report
     report = reportOf (hearing (begins-run link e)) frameReport noReason
 
-    among-byte : move ≡ makes frameReport noReason (framed (link .phase)) → Among report (byteTells (begins-run link e) e (link .mark))
+    among-byte : At (makes frameReport noReason (framed (link .phase))) → Among report (byteTells (begins-run link e) e (link .mark))
     unfolding byteTells begins-run tells
-    among-byte m = among-left _ (subst (λ (x : Move). Among report (tells (hearing (begins-run link e)) x)) (sym m) first)
+    among-byte m = among-left _ (subst (λ (x : Move). Among report (tells (hearing (begins-run link e)) x)) (one-move _ e (link .phase) m (by-byte _ e (link .phase))) first)
 
-    among-all : move ≡ makes frameReport noReason (framed (link .phase)) → Among report (handledTells link e)
+    among-all : At (makes frameReport noReason (framed (link .phase))) → Among report (handledTells link e)
     unfolding handledTells
     among-all m =
         let r = begins-run link e in
@@ -317,7 +281,7 @@ module _ (log : Log) (e : Event) (t : Talk) (b : Event) (bytes : List ℕ) (s : 
         let x = ends-last (b .side) message (e .value) (sym (rest-does (e .value ∷ [])) ∙ whole-is) in
         record {
           report = report;
-          made = subst (Among report) (sym all-reports) (among-all (held-move ∙ frame-move (x .0) (x .1)));
+          made = subst (Among report) (sym all-reports) (among-all (frames (is-held (link .phase .state) (s .held)) (right-byte (x .0)) (x .1)));
           number = refl;
           names = frame-names;
         }

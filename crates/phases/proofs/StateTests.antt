@@ -1,6 +1,6 @@
 -- What one test of a state says of another. Assumes nothing.
 use mathlib.Core.Bool.{true, false, false≢true}
-use mathlib.Core.Path.{_≡_, refl, sym, ap}
+use mathlib.Core.Path.{_≡_, refl, sym, ap, _∙_}
 use Rattle.phases.specs.Phases.{isStarting, isQuiet, isHeld, isOpen, isConnected}
 use Rattle.phases.specs.declared.State.{State}
 use Rattle.phases.specs.declared.State.the-variants.{Down, Starting, Quiet, Held, Damage}
@@ -62,6 +62,17 @@ open-or A Starting c f g = absurd (false≢true c)
 open-or A Quiet c f g = g refl
 open-or A Held c f g = f refl
 open-or A Damage c f g = f refl
+
+pub open-or-quiet : (st : State) → isConnected st ≡ true → isOpen st ≡ false → isQuiet st ≡ true
+open-or-quiet st c o = open-or (isQuiet st ≡ true) st c (λ x. absurd (false≢true (sym o ∙ x))) (λ q. q)
+
+pub held-open : (st : State) → isHeld st ≡ true → isOpen st ≡ true
+unfolding isHeld isOpen
+held-open Down h = h
+held-open Starting h = h
+held-open Quiet h = h
+held-open Held h = refl
+held-open Damage h = refl
 
 -- no two at once
 pub never-starting : (st : State) → isConnected st ≡ true → isStarting st ≡ true → ⊥
