@@ -52,8 +52,8 @@ use Rattle.demands.proofs.Holding.{Holds, Names, frame, damage, success
 use Rattle.demands.proofs.Tiling.{HoldsIn, rule-names, held-walk}
 use Rattle.demands.proofs.Invariant.{kept-of}
 use Rattle.demands.proofs.Judging.{misjudged}
-use Rattle.demands.proofs.Saying.{Each, each-none, each-both}
-use Rattle.demands.proofs.Finding.{tells-each, reports-made, taken-by-report}
+use Rattle.demands.proofs.Saying.{Each, each-none, each-both, tells-each}
+use Rattle.demands.proofs.Finding.{reports-made, taken-by-report}
 use Rattle.demands.specs.Ours.{ours}
 
 -- ---- the reasons that a report has, by its number

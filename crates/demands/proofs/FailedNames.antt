@@ -29,11 +29,11 @@ use Rattle.demands.specs.Histories.{after, reportsTo, Among}
 use Rattle.demands.specs.Accounts.{heldIn}
 use Rattle.demands.proofs.Holding.{Holds, Same}
 use Rattle.demands.proofs.Tiling.{HoldsIn, held-walk}
-use Rattle.demands.proofs.Saying.{Each, each-none, each-both}
+use Rattle.demands.proofs.Saying.{Each, each-none, each-both, tells-each}
 use Rattle.demands.proofs.Invariant.{kept-of}
 use Rattle.demands.proofs.Judging.{misjudged}
 use Rattle.demands.proofs.Accounting.{accounted}
-use Rattle.demands.proofs.Finding.{tells-each, reports-made, taken-by-report}
+use Rattle.demands.proofs.Finding.{reports-made, taken-by-report}
 use Rattle.demands.specs.Orders.{NamesFailed}
 use Rattle.demands.specs.Ours.{ours}
 

@@ -77,13 +77,7 @@ makes-tells r number reason p z = rw z (record { report = reportOf r number reas
 pub move-tells : (r : Run) (m : Move) (number reason : ℕ) (p : Phase) → eqb number 0 ≡ false → m ≡ makes number reason p → Tells number reason (tells r m)
 move-tells r m number reason p z q = subst (λ (x : Move). Tells number reason (tells r x)) (sym q) (makes-tells r number reason p z)
 
--- what holds of a move's report, if it makes one, holds of each that it tells
-pub tells-each : (P : Report → Type 0) (r : Run) (m : Move) → (eqb (m .number) 0 ≡ false → P (reportOf r (m .number) (m .reason))) → Each P (tells r m)
-unfolding tells
-tells-each P r m h =
-    by-test (Each P) (eqb (m .number) 0) {x = []} {y = reportOf r (m .number) (m .reason) ∷ []} (λ _. each-none P) (λ z. each-one P _ (h z))
-
--- by its number and reason
+-- what holds of the number and the reason of a move's report, if it makes one, holds of the report
 abbrev pub EachOf : (ℕ → ℕ → Type 0) → List Report → Type 0
 EachOf C rs = Each (λ (x : Report). C (x .number) (x .reason)) rs
 
@@ -91,8 +85,10 @@ abbrev pub Makes : (ℕ → ℕ → Type 0) → Move → Type 0
 Makes C m = eqb (m .number) 0 ≡ false → C (m .number) (m .reason)
 
 pub move-each : (C : ℕ → ℕ → Type 0) (r : Run) (m : Move) → Makes C m → EachOf C (tells r m)
-unfolding reportOf
-move-each C r m h = tells-each (λ (x : Report). C (x .number) (x .reason)) r m h
+unfolding tells reportOf
+move-each C r m h =
+    by-test (EachOf C) (eqb (m .number) 0) {x = []} {y = reportOf r (m .number) (m .reason) ∷ []} (λ _. each-none (λ (x : Report). C (x .number) (x .reason)))
+    (λ z. each-one (λ (x : Report). C (x .number) (x .reason)) _ (h z))
 
 -- ---- of an event: one that is refused makes none
 pub reports-made : (es : Log) (e : Event) → numberAfter (takenOf es) e ≡ taken → reportsTo ours es e ≡ handledTells (after ours es .link) e

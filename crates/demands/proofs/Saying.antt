@@ -1,12 +1,17 @@
--- Reports in a list: which are among them, and what they make of a talk, for a list that is made of two. Assumes nothing.
+-- Reports in a list: which are among them, and what they make of a talk, for a list that is made of two; and the report of a move. Assumes nothing.
 use Prim.Native.Nat.{ℕ}
-use mathlib.Core.Bool.{Bool, _||_, or-assoc}
+use mathlib.Core.Bool.{Bool, false, _||_, or-assoc}
 use mathlib.Core.List.{List, [], _∷_, _++_}
 use mathlib.Core.Path.{_≡_, refl, sym, ap, _∙_}
 use mathlib.Core.Logic.{_⊎_, inl, inr, ⊎-elim}
 use lib.Dec.{eqb}
+use Rattle.base.proofs.Tests.{by-test}
 use Rattle.events.specs.declared.Side.{Side}
+use Rattle.moves.specs.declared.Move.{Move}
+use Rattle.reports.specs.Reporting.{reportOf}
 use Rattle.reports.specs.declared.Report.{Report}
+use Rattle.reports.specs.declared.Run.{Run}
+use Rattle.link.specs.Telling.{tells}
 use Rattle.demands.specs.Histories.{isAmong, Among, first, later}
 use Rattle.demands.specs.Sessions.{Talk, afterReport, talkAfter}
 
@@ -43,6 +48,12 @@ each-one P r p x a = rw (only-one a) p
 
 pub each-both : (P : Report → Type 0) (rs ss : List Report) → Each P rs → Each P ss → Each P (rs ++ ss)
 each-both P rs ss f g x a = ⊎-elim (λ b. f x b) (λ b. g x b) (among-either rs a)
+
+-- what holds of a move's report, if it makes one, holds of each that it tells
+pub tells-each : (P : Report → Type 0) (r : Run) (m : Move) → (eqb (m .number) 0 ≡ false → P (reportOf r (m .number) (m .reason))) → Each P (tells r m)
+unfolding tells
+tells-each P r m h =
+    by-test (Each P) (eqb (m .number) 0) {x = []} {y = reportOf r (m .number) (m .reason) ∷ []} (λ _. each-none P) (λ z. each-one P _ (h z))
 
 -- ---- a report of this number
 pub says-both : (number : ℕ) (rs ss : List Report) → isAmong number (rs ++ ss) ≡ (isAmong number rs || isAmong number ss)
