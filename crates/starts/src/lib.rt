@@ -257,7 +257,10 @@ fn keep_one(s: Start, v: u8, stage: Stage) -> Start
         stage: stage,
         address: s.address,
         sum: base::byte_sum(s.sum, v),
-        pair: Pair { kb1: v, kb2: s.pair.kb2 },
+        pair: Pair {
+            kb1: v,
+            kb2: s.pair.kb2,
+        },
     }
 }
 
@@ -269,7 +272,10 @@ fn keep_two(s: Start, v: u8, stage: Stage) -> Start
         stage: stage,
         address: s.address,
         sum: base::byte_sum(s.sum, v),
-        pair: Pair { kb1: s.pair.kb1, kb2: v },
+        pair: Pair {
+            kb1: s.pair.kb1,
+            kb2: v,
+        },
     }
 }
 
