@@ -44,7 +44,7 @@ fn event(kind: u8, side: u8, value: u8, start: u64, end: u64) -> Event {
     }
 }
 
-// A number behind a space.
+// A number after a space.
 fn print_next(n: u64) {
     io::write_all(STDOUT_FILENO, b" ");
     io::print_decimal(STDOUT_FILENO, n);

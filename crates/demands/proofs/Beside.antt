@@ -1,13 +1,13 @@
 -- The theorems about our own link that stand beside the demands. Assumes nothing.
 use Rattle.talk.proofs.Frames.{message-reads}
 use Rattle.demands.specs.Beside.{Beside}
-use Rattle.demands.proofs.Places.{step-placed}
-use Rattle.demands.proofs.Answering as answering
-use Rattle.demands.proofs.Becomes as becomes
-use Rattle.demands.proofs.Names as names
-use Rattle.demands.proofs.Session as session
-use Rattle.demands.proofs.Initializing as initializing
-use Rattle.demands.proofs.Accounting as accounting
+use Rattle.demands.proofs.OneEvent.ThreeAtMost.{step-placed}
+use Rattle.demands.proofs.Numbers.Answering as answering
+use Rattle.demands.proofs.Connecting.BecomesConnected as becomes
+use Rattle.demands.proofs.Connecting.ConnectedReport as names
+use Rattle.demands.proofs.Sessions.SessionExactly as session
+use Rattle.demands.proofs.Endings.StartingExactly as initializing
+use Rattle.demands.proofs.Accounts.Accounted as accounting
 
 pub beside : Beside
 beside = record {

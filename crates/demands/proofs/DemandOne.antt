@@ -3,9 +3,9 @@
 use mathlib.Core.Path.{_≡_}
 use Rattle.base.specs.Numbers.{taken}
 use Rattle.demands.specs.Histories.{after}
-use Rattle.demands.proofs.Refusing as refusing
-use Rattle.demands.proofs.Computed.{retiming, computed}
-use Rattle.demands.proofs.Answering as answering
+use Rattle.demands.proofs.Numbers.Refusing as refusing
+use Rattle.demands.proofs.WrongLinks.Computed.{retiming, computed}
+use Rattle.demands.proofs.Numbers.Answering as answering
 use Rattle.demands.specs.DemandOne.{DemandOne}
 use Rattle.demands.specs.Ours.{ours}
 use Rattle.demands.specs.OurLink.{ourLink}

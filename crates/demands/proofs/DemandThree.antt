@@ -1,8 +1,8 @@
 -- DEMAND 3 HOLDS of our link. Its statements are in specs/DemandThree.antt; the work is in the files cited here.
 -- Assumes nothing.
 use Prim.Native.Nat.{_-_}
-use Rattle.demands.proofs.Accounting as accounting
-use Rattle.demands.proofs.Lending as lending
+use Rattle.demands.proofs.Accounts.Accounted as accounting
+use Rattle.demands.proofs.Histories.LentCounts as lending
 use Rattle.demands.specs.DemandThree.{DemandThree}
 use Rattle.demands.specs.Ours.{ours}
 use Rattle.demands.specs.OurLink.{ourLink}

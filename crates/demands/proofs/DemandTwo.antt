@@ -9,22 +9,22 @@ use Rattle.frame.proofs.WellRead.{announced-reads-back, reads-exactly, read-sum
 use Rattle.demands.specs.DemandTwo.{DemandTwo, Foundation}
 use Rattle.demands.specs.Ours.{ours}
 use Rattle.demands.specs.OurLink.{ourLink}
-use Rattle.demands.proofs.Order as order
-use Rattle.demands.proofs.Lending as lending
-use Rattle.demands.proofs.FailedNames as failedNames
-use Rattle.demands.proofs.NoneHeld as noneHeld
-use Rattle.demands.proofs.Placing.{built-placed}
-use Rattle.demands.proofs.Leaving as leaving
-use Rattle.demands.proofs.Each as each
-use Rattle.demands.proofs.Failing as failing
-use Rattle.demands.proofs.Exactly as exactly
-use Rattle.demands.proofs.Initializing as initializing
-use Rattle.demands.proofs.Names as names
-use Rattle.demands.proofs.Opening as opening
-use Rattle.demands.proofs.Beginning as beginning
-use Rattle.demands.proofs.Damaging as damaging
-use Rattle.demands.proofs.Breaking as breaking
-use Rattle.demands.proofs.Reporting as reporting
+use Rattle.demands.proofs.OneEvent.InOrder as order
+use Rattle.demands.proofs.Histories.LentCounts as lending
+use Rattle.demands.proofs.OneEvent.FailedNames as failedNames
+use Rattle.demands.proofs.Endings.NoneHeld as noneHeld
+use Rattle.demands.proofs.Codecs.LengthPlaced.{built-placed}
+use Rattle.demands.proofs.Endings.DownsExactly as leaving
+use Rattle.demands.proofs.Endings.EachFormed as each
+use Rattle.demands.proofs.Endings.FailsExactly as failing
+use Rattle.demands.proofs.Connecting.ConnectsExactly as exactly
+use Rattle.demands.proofs.Endings.StartingExactly as initializing
+use Rattle.demands.proofs.Connecting.ConnectedReport as names
+use Rattle.demands.proofs.Sessions.OpeningByte as opening
+use Rattle.demands.proofs.Sessions.OpensFirst as beginning
+use Rattle.demands.proofs.Damage.DamageExactly as damaging
+use Rattle.demands.proofs.Damage.DamageReasons as breaking
+use Rattle.demands.proofs.Sessions.FramesRead as reporting
 
 foundation : Foundation
 foundation = record {

@@ -75,7 +75,7 @@ namedIn (r ∷ rs) = r .bytes + namedIn rs
 unfoldable pub heldIn : Machine → Log → ℕ
 heldIn m es = length (heardIn es) - namedIn (reportsOf m es)
 
--- DEMAND 3 of a link, behind the events es
+-- DEMAND 3 of a link, after the events es
 pub record Accounted (m : Machine) (es : Log) : Type 0 where
   -- "the bytes the reports name, in order, followed by those held, are the bytes heard, each once"
   pub bytes : allNamed (heardIn es) (reportsOf m es) ++ lastOf (heldIn m es) (heardIn es) ≡ heardIn es

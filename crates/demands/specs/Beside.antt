@@ -44,7 +44,7 @@ pub record IsIn (t : Talk) (l : Link) : Type 0 where
   pub windows : l .phase .windows ≡ inForce t
   pub reply : l .phase .reply ≡ t .reply
 
--- what our link is behind the event that completes an initialization: connected, with nothing open, by its key bytes. "Timing starts at the set KB1 names",
+-- what our link is after the event that completes an initialization: connected, with nothing open, by its key bytes. "Timing starts at the set KB1 names",
 -- and nothing is expected yet.
 pub record ConnectedLink (log : Log) (e : Event) (c : Connects log e) (a : Answer) : Type 0 where
   pub answer : Connected log e c (listed (a .reports))
@@ -86,7 +86,7 @@ pub record Beside : Type 0 where
   -- .. NO REPORT IS LOST: those in the three places of an answer to an event that was taken are the reports of all its moves, in order.
   pub none-lost : (es : Log) (e : Event) → ourAnswer es e .no ≡ 0 → listed (ourAnswer es e .reports) ≡ handledTells (after ours es .link) e
   -- UP TO THE TEXT, for every input, whatever bytes it is of: its listing is the header, what is written for the events of its lines, in order, and an end
-  -- line that shows the seven counts worked out from the history of these events, and how many bytes are held behind it.
+  -- line that shows the seven counts worked out from the history of these events, and how many bytes are held after it.
   pub listing-shows : (input : List ℕ)
       → let es = historyOf input in
       listingOf input ≡ headText ++ (saidFor es ++ endText (countsOf (heardIn es) (reportsOf ours es)) (heldIn ours es))

@@ -35,7 +35,7 @@ pub record Connects (log : Log) (e : Event) : Type 0 where
 
 -- WHAT IT IS ANSWERED WITH
 pub record Connected (log : Log) (e : Event) (c : Connects log e) (rs : List Report) : Type 0 where
-  -- its one report: from the first byte behind the start, as many as came since, at the event's end
+  -- its one report: from the first byte after the start, as many as came since, at the event's end
   pub reports : rs
       ≡ (record {
         first = length (heardOf (c .before));

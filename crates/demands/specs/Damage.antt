@@ -1,5 +1,5 @@
 -- Why bytes are reported as damage, told by the values and sides of the bytes that report 2 names, from the first one on, and by KB1 (document 01,
--- "Connected."). Stated of any link in DemandTwo.antt; that it holds of ours is proved in proofs/Breaking.antt.
+-- "Connected."). Stated of any link in DemandTwo.antt; that it holds of ours is proved in proofs/Damage/DamageReasons.antt.
 -- Assumes nothing.
 use Prim.Native.Nat.{ℕ, _+_, _/_, _%_, _<_}
 use mathlib.Core.Bool.{Bool, not, _&&_}
@@ -38,15 +38,15 @@ firstFault kb1 f =
     if not (eqb low 0) && not (lengthInFormat kb1) then wrongLength else
     if eqb low 0 && not (extraLength kb1) then wrongLength else noReason
 
--- the byte behind these values is the extra length byte, which stands behind the addresses; it is the checksum, with which the frame is as long as its
--- header says. (No byte comes behind a right checksum.)
+-- the byte after these values is the extra length byte, which stands after the addresses; it is the checksum, with which the frame is as long as its
+-- header says. (No byte comes after a right checksum.)
 unfoldable pub isLengthByte : List ℕ → Bool
 isLengthByte s = eqb (lowSix s) 0 && eqb (length s) (1 + addressesIn s)
 
 unfoldable pub isChecksum : List ℕ → Bool
 isChecksum s = leb (sizeSaid s) (length s + 1)
 
--- "Later: other side (7), length byte 0 (8), wrong checksum (9).": the byte b behind bytes of this side and these values
+-- "Later: other side (7), length byte 0 (8), wrong checksum (9).": the byte b after bytes of this side and these values
 unfoldable pub laterFault : Side → List ℕ → Event → ℕ
 laterFault side s b =
     if not (sameSide (b .side) side) then otherSide else
@@ -58,7 +58,7 @@ unfoldable pub valuesOf : List Event → List ℕ
 valuesOf [] = []
 valuesOf (b ∷ bs) = b .value ∷ valuesOf bs
 
--- a byte behind those before it, none of which fails
+-- a byte after those before it, none of which fails
 unfoldable pub faultAt : ℕ → List Event → Event → ℕ
 faultAt kb1 [] b = firstFault kb1 (b .value)
 faultAt kb1 (f ∷ bs) b = laterFault (f .side) (valuesOf (f ∷ bs)) b
@@ -82,7 +82,7 @@ pub record GoesBy (k atEnd : ℕ) (gap : Micros) (r : Report) : Type 0 where
   -- "A, W or D then close what is open: a held message as report 2 reason 2"
   pub closed : k ≡ noReason → Not (20_000 < gap .0) → r .reason ≡ closed
 
--- A REPORT 2 of the event e behind es: its first byte, which was early or stray exactly if the reason is 3 or 4; and where it was neither, the reason goes
+-- A REPORT 2 of the event e after es: its first byte, which was early or stray exactly if the reason is 3 or 4; and where it was neither, the reason goes
 -- by the bytes that the report names, under the session's key bytes
 pub record Damaged (m : Machine) (es : Log) (e : Event) (r : Report) : Type 0 where
   pub turns : Turns m (es ▷ e) r

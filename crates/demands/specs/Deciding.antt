@@ -1,8 +1,8 @@
 -- THE DEMANDS DECIDE EVERY ANSWER. Take any two links, whatever they are inside and however they come to their answers. If both meet the three demands, then
--- behind every history, from fresh links with zero counts, they answer every event alike: with the same number, the same reports, the same counts, and as many
+-- after every history, from fresh links with zero counts, they answer every event alike: with the same number, the same reports, the same counts, and as many
 -- bytes held; also if a host lends other counts than the link's own, then or with every event. So whoever keeps these promises answers as our link does, and
 -- there is no answer that the demands leave open. (Values of events are bytes, as they are in the code: `InBytes`.)
--- It is proved in proofs/Deciding.antt. Assumes nothing.
+-- It is proved in proofs/Decided.antt. Assumes nothing.
 use mathlib.Core.Path.{_≡_}
 use Rattle.events.specs.declared.Event.{Event}
 use Rattle.reports.specs.declared.Counts.{Counts}
@@ -26,7 +26,7 @@ pub record Same (m n : Machine) (a : Told (m .Inner)) (b : Told (n .Inner)) : Ty
   pub counts : a .counts ≡ b .counts
   pub held : m .held (a .link) ≡ n .held (b .link)
 
--- two links answer an event behind these events alike: with the counts that only the link has changed, and with any others lent
+-- two links answer an event after these events alike: with the counts that only the link has changed, and with any others lent
 pub record Alike (m n : Machine) (es : Log) (e : Event) : Type 0 where
   pub own : Same m n (answerTo m es e) (answerTo n es e)
   pub lent : (c : Counts) → Same m n (answerWith m es c e) (answerWith n es c e)

@@ -1,6 +1,6 @@
 -- DEMAND 1: "The link takes any event at all and always comes back. Bad times, unknown kinds, wrong key bytes, short buffers, unannounced forms each get
 -- their number. After a refusal the link, its counts and the lent buffers hold what they held before." An event gets the number whose condition holds and none
--- smaller, behind any history and with any counts lent; one that is refused changes nothing. The same is said of frames built and read and of timing codes. A
+-- smaller, after any history and with any counts lent; one that is refused changes nothing. The same is said of frames built and read and of timing codes. A
 -- link that refused everything would break it.
 -- Assumes nothing.
 use Prim.Native.Nat.{ℕ, _≤_}
@@ -33,7 +33,7 @@ someEvent = record { start = micros 0; end = micros 960; kind = Byte; side = Tes
 
 -- DEMAND 1, of any link
 pub record DemandOne (m : Machine) : Type 0 where
-  -- THE NUMBER OF AN EVENT, behind any events from a fresh link, with any lent counts: 1, 2, 3 or 4 exactly when its condition holds and that of no
+  -- THE NUMBER OF AN EVENT, after any events from a fresh link, with any lent counts: 1, 2, 3 or 4 exactly when its condition holds and that of no
   -- smaller number does, and 0 exactly when none of the four holds. There is no other number.
   pub numbered : (es : Log) (c : Counts) (e : Event)
       → Numbered (clockOf (takenOf es)) (countOf (takenOf es)) c e (answerWith m es c e .no)
@@ -44,7 +44,7 @@ pub record DemandOne (m : Machine) : Type 0 where
   -- it ends; such as this one.
   pub fresh-takes : (e : Event) → Not (Unknown e) → Not (TooLate e) → e .start .0 ≤ e .end .0 → m .step (m .fresh) zeroCounts e .no ≡ 0
   pub some-event-taken : m .step (m .fresh) zeroCounts someEvent .no ≡ 0
-  -- THE NUMBERS OF A HISTORY, behind any events from a fresh link with zero counts that only the link changes: the number of the next event is the one
+  -- THE NUMBERS OF A HISTORY, after any events from a fresh link with zero counts that only the link changes: the number of the next event is the one
   -- that the events taken before it give, ..
   pub history-numbers : (es : Log) (e : Event) → answerTo m es e .no ≡ numberAfter (takenOf es) e
   -- .. which is 1, 2, 3 or 4 exactly when its condition holds, at the end of the last event taken and the number of them, and 0 exactly when none does:

@@ -48,7 +48,7 @@ use Rattle.demands.specs.Messages.{EndsInFrame, ReportsFrame}
 pub record Foundation : Type 0 where
   -- the good pairs are the 18 values of document 01 with 8F, and no other
   pub keys : (kb1 kb2 : ℕ) → kb1 < 256 → goodPair kb1 kb2 ≡ (eqb kb2 0x8F && isIn kb1 eighteen)
-  -- what `build` builds reads back: form, the addresses it carries, data; and what stood behind it in the buffer still does
+  -- what `build` builds reads back: form, the addresses it carries, data; and what stood after it in the buffer still does
   pub built : (p : Plan) (bytes out : List ℕ) (r : Built) (after : List ℕ) → Builds p bytes out r after → r .no ≡ taken → BuiltReadsBack p bytes out r after
   -- .. and has its length in the format byte wherever it may stand there, and otherwise in the extra byte;
   pub placed : (p : Plan) (bytes out : List ℕ) (r : Built) (after : List ℕ) → Builds p bytes out r after → r .no ≡ taken
@@ -95,7 +95,7 @@ pub record DemandTwo (m : Machine) : Type 0 where
       → ReportsFrame (heardIn (es ▷ e)) (reportsTo m es e) bytes ↔ EndsInFrame m es e bytes
   -- ---- d. DAMAGE, STRAY AND EARLY
   -- A report 1 or 2 names bytes from the first byte of a message on, and it is a damage with reason 3, or 4, exactly if that byte was early, or stray, by
-  -- its side and its gap under the windows in force then, and by the reply that may come behind the time before it.
+  -- its side and its gap under the windows in force then, and by the reply that may come after the time before it.
   pub turns-exactly : (es : Log) (e : Event) (r : Report) → InBytes (es ▷ e) → Among r (reportsTo m es e)
       → (r .number ≡ frameReport) ⊎ (r .number ≡ damageReport) → Turns m (es ▷ e) r
   -- No first byte escapes this: whatever events follow, the report that names a byte which opens a message begins with it.

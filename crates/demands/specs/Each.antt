@@ -1,5 +1,5 @@
 -- What each report of an event says, whatever the events before it (document 01, "Events and what the link does"). Stated of
--- any link in DemandTwo.antt; that it holds of ours is proved in proofs/Each.antt.
+-- any link in DemandTwo.antt; that it holds of ours is proved in proofs/Endings/EachFormed.antt.
 -- Assumes nothing.
 use Prim.Native.Nat.{_≤_}
 use mathlib.Core.Path.{_≡_}

@@ -42,7 +42,7 @@ pub data Starting (m : Machine) : Log → Type 0 where
       → Starting m (es ▷ e)
 
 -- ---- what ends a session
--- "a unit frame starting C2 after a tester frame starting 82": in the session t, behind es, the event e ends a message of the unit in a frame that answers a
+-- "a unit frame starting C2 after a tester frame starting 82": in the session t, after es, the event e ends a message of the unit in a frame that answers a
 -- stop, by its data and that of the latest tester frame
 pub record AnswersStop (m : Machine) (t : Talk) (es : Log) (e : Event) : Type 0 where
   pub bytes : List ℕ

@@ -1,6 +1,6 @@
 -- How an initialization fails, told by the history (document 01, "Slow.", "Fast.", "A byte that fails joins its initialization", "In initialization, the
--- present window's end passed"). The place that is due next follows from the start event and the bytes behind it (Starts.antt). Stated
--- of any link in DemandTwo.antt; that it holds of ours is proved in proofs/Failing.antt.
+-- present window's end passed"). The place that is due next follows from the start event and the bytes after it (Starts.antt). Stated
+-- of any link in DemandTwo.antt; that it holds of ours is proved in proofs/Endings/FailsExactly.antt.
 -- Assumes nothing.
 use Prim.Native.Nat.{_+_, _<_}
 use mathlib.Core.Bool.{Bool, true, false}

@@ -64,7 +64,7 @@ modeOf s = formatByte s / 64
 abbrev pub lowSix : List ℕ → ℕ
 lowSix s = formatByte s % 64
 
--- "Then target and source in modes 10 and 11, then the extra length byte if any": how many addresses there are, and the byte behind them, 0 where the
+-- "Then target and source in modes 10 and 11, then the extra length byte if any": how many addresses there are, and the byte after them, 0 where the
 -- slice has none
 abbrev pub addressesIn : List ℕ → ℕ
 addressesIn s = if leb 2 (modeOf s) then 2 else 0
@@ -109,7 +109,7 @@ pub record ReadNumbered (kb1 kb2 : ℕ) (s : List ℕ) (no : ℕ) : Type 0 where
 
 -- ---- what is built
 -- "Length 1 to 63 goes in the format byte if KB1 bit 0 is set; otherwise lengths 1 to 255 take the extra byte if bit 1 is set": where a frame that was
--- built has the length of its n data bytes. In the format byte these are its low six bits; otherwise the low six bits are 0, and it stands behind the
+-- built has the length of its n data bytes. In the format byte these are its low six bits; otherwise the low six bits are 0, and it stands after the
 -- addresses.
 pub record LengthPlaced (kb1 n : ℕ) (frame : List ℕ) : Type 0 where
   pub in-format : GoesInFormat kb1 n → lowSix frame ≡ n

@@ -38,7 +38,7 @@ unfoldable pub after : (m : Machine) → Log → Host (m .Inner)
 after m none = record { link = m .fresh; counts = zeroCounts }
 after m (es ▷ e) = kept (m .step (after m es .link) (after m es .counts) e)
 
--- the answer to an event behind events, with these counts lent; with the counts of the history, which only the link has changed
+-- the answer to an event after events, with these counts lent; with the counts of the history, which only the link has changed
 abbrev pub answerWith : (m : Machine) → Log → Counts → Event → Told (m .Inner)
 answerWith m es c e = m .step (after m es .link) c e
 
@@ -54,11 +54,11 @@ unfoldable pub reportsOf : Machine → Log → List Report
 reportsOf m none = []
 reportsOf m (es ▷ e) = reportsOf m es ++ reportsTo m es e
 
--- how many bytes it shows to be held behind events
+-- how many bytes it shows to be held after events
 abbrev pub heldBy : Machine → Log → ℕ
 heldBy m es = m .held (after m es .link)
 
--- A host may lend other counts with each event: the events with the counts that are lent for them, in order; the events alone; and the link behind them
+-- A host may lend other counts with each event: the events with the counts that are lent for them, in order; the events alone; and the link after them
 pub data Lendings : Type 0 where
   nothing : Lendings
   lend : Lendings → Counts → Event → Lendings

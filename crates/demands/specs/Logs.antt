@@ -47,7 +47,7 @@ unfoldable pub bytesOf : Log → List Event
 bytesOf none = []
 bytesOf (log ▷ e) = bytesOf log ++ (if isByte (e .kind) then e ∷ [] else [])
 
--- THE EVENTS TAKEN. The number of an event behind events taken: its conditions are those of demand 1, at the clock and the number of those events.
+-- THE EVENTS TAKEN. The number of an event after events taken: its conditions are those of demand 1, at the clock and the number of those events.
 -- (Lent counts that only the link changes are never above the number that 4 names: `never-above`.)
 unfoldable pub numberAfter : Log → Event → ℕ
 numberAfter log e = refusal (clockOf log) (leb most (countOf log)) e

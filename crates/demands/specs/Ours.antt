@@ -22,6 +22,6 @@ machineOf step = record { Inner = Link; fresh = freshLink; step = λ l c e. told
 abbrev pub ours : Machine
 ours = machineOf stepOf
 
--- its answer behind events
+-- its answer after events
 abbrev pub ourAnswer : Log → Event → Answer
 ourAnswer es e = stepOf (after ours es .link) (after ours es .counts) e .answer

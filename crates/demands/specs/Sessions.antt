@@ -200,7 +200,7 @@ Early t reply gap b =
     ((b .side ≡ Tester) × ((reply ≡ First) ⊎ (gap .0 < inForce t .p3min .0)))
     ⊎ ((b .side ≡ Unit) × Not (Stray t reply gap b) × (gap .0 < inForce t .p2min .0))
 
--- a byte behind these events, in their session t, is stray, or early
+-- a byte after these events, in their session t, is stray, or early
 abbrev pub StrayAt : Machine → Log → Event → Talk → Type 0
 StrayAt m before b t =
     let gap = gapBefore (takenOf before) b in

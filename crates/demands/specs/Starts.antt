@@ -1,4 +1,4 @@
--- What a good initialization is (document 01, "Slow." and "Fast."): the places that its bytes take in turn, and the place that is due behind the bytes so
+-- What a good initialization is (document 01, "Slow." and "Fast."): the places that its bytes take in turn, and the place that is due after the bytes so
 -- far. All of it is said of sides, values, starts and ends; nothing here speaks of a link.
 -- Assumes nothing.
 use Prim.Native.Nat.{ℕ, _+_, _-_, _%_, _≤_}
@@ -19,7 +19,7 @@ use Rattle.events.specs.declared.Event.{Event}
 use Rattle.demands.specs.Logs.{Log, none, _▷_}
 use Rattle.demands.specs.Refusals.{Always}
 
--- t is lo to hi microseconds behind s. "All windows include both ends."
+-- t is lo to hi microseconds after s. "All windows include both ends."
 abbrev pub Window : ℕ → ℕ → Micros → Micros → Type 0
 Window lo hi s t = (s .0 + lo ≤ t .0) × (t .0 ≤ s .0 + hi)
 
@@ -31,7 +31,7 @@ pub data Value : Type 0 where
   oneOf : List ℕ → Value
   -- a KB2 that makes a good pair with this KB1
   pairedWith : ℕ → Value
-  -- this checksum, behind these key bytes, which are a good pair: "checksum and pair both at the checksum byte"
+  -- this checksum, after these key bytes, which are a good pair: "checksum and pair both at the checksum byte"
   sumBehind : ℕ → Pair → Value
 
 unfoldable pub IsOne : List ℕ → ℕ → Type 0
@@ -136,7 +136,7 @@ pub data FastStart (w : Event) : Pair → Log → Type 0 where
       → Right (replySum (n + service .value + one .value + two .value) (pairOf (one .value) (two .value))) (two .end) sum
       → FastStart w (pairOf (one .value) (two .value)) (bs ▷ service ▷ one ▷ two ▷ sum)
 
--- ---- THE PLACE THAT IS DUE behind an address or wake-up and the bytes so far, which were right
+-- ---- THE PLACE THAT IS DUE after an address or wake-up and the bytes so far, which were right
 unfoldable pub dueSlow : ℕ → List Event → Place
 dueSlow address [] = sync
 dueSlow address (s ∷ []) = keyOne
@@ -144,19 +144,19 @@ dueSlow address (s ∷ one ∷ []) = keyTwo (one .value)
 dueSlow address (s ∷ one ∷ two ∷ []) = keyBack (two .value)
 dueSlow address (s ∷ one ∷ two ∷ back ∷ bs) = addressBack address
 
--- in the reply, behind a header of this sum: C1 KB1 KB2, checksum; ..
+-- in the reply, after a header of this sum: C1 KB1 KB2, checksum; ..
 unfoldable pub dueData : ℕ → List Event → Place
 dueData sum [] = next Unit (only 0xC1)
 dueData sum (service ∷ []) = next Unit any
 dueData sum (service ∷ one ∷ []) = next Unit any
 dueData sum (service ∷ one ∷ two ∷ bs) = replySum (sum + service .value + one .value + two .value) (pairOf (one .value) (two .value))
 
--- .. behind what stands before an extra length byte; ..
+-- .. after what stands before an extra length byte; ..
 unfoldable pub dueLength : ℕ → List Event → Place
 dueLength sum [] = next Unit (only 3)
 dueLength sum (len ∷ bs) = dueData (sum + len .value) bs
 
--- .. behind a format byte with target and source, and whether an extra length byte follows them
+-- .. after a format byte with target and source, and whether an extra length byte follows them
 unfoldable pub dueAddresses : Bool → ℕ → List Event → Place
 dueAddresses long sum [] = next Unit any
 dueAddresses long sum (t ∷ []) = next Unit any

@@ -1,5 +1,5 @@
 -- The wrong programs that document 01 wants shut out ("What a caller can rely on"), the accident that must not come again, and wrong links that a single field
--- of a demand is there for. That each breaks a demand is proved in proofs/Shut.antt.
+-- of a demand is there for. That each breaks a demand is proved in proofs/WrongLinks/ShutOut.antt.
 -- Assumes nothing.
 use Prim.Native.Nat.{ℕ, _+_, _-_}
 use mathlib.Core.Bool.{Bool, true, false, not, _&&_}
@@ -102,7 +102,7 @@ inventing = machineOf (λ l c e. record {
 abbrev retimed : Link → Stepped → Bool
 retimed l s = isHeld (l .phase .state) && isQuiet (s .answer .link .phase .state) && not (sameWindows (l .phase .windows) (s .answer .link .phase .windows))
 
--- .. the frame count stays one behind; ..
+-- .. the frame count stays one after; ..
 abbrev pub behind : Machine
 behind = machineOf (λ l c e. let s = stepOf l c e in if retimed l s then withFrames s (c .frames) else s)
 
@@ -185,7 +185,7 @@ again (r ∷ s ∷ rs) = r ∷ s ∷ rs
 abbrev pub repeating : Machine
 repeating = changing again sameCounts
 
--- one that moves the byte of a report 4 to a report 5 behind it
+-- one that moves the byte of a report 4 to a report 5 after it
 abbrev movesByte : List Report → Bool
 movesByte [] = false
 movesByte (r ∷ []) = false

@@ -1,4 +1,4 @@
--- Bytes written into a buffer one behind the other, and sums of bytes. Assumes nothing.
+-- Bytes written into a buffer one after another, and sums of bytes. Assumes nothing.
 use mathlib.Core.Path.{_≡_, sym, ap, _∙_}
 use mathlib.Core.List.{List, [], _∷_, _++_, append-assoc, append-nil}
 use Prim.Native.Nat.{ℕ, _+_, _-_, _<_, _≤_}
@@ -11,7 +11,7 @@ use lib.Seq.{take-suc, sets, sets-eq, take-append-seam, drop-append-add, drop-dr
 use Rattle.frame.specs.Layout.{total}
 use Rattle.frame.specs.Build.{put, over}
 
--- stores one behind the other from an index on
+-- stores one after another from an index on
 pub stored : (at : ℕ) (vs out : List ℕ) → at + length vs ≤ length out → sets out at vs ≡ put at vs out
 stored at vs out h = sets-eq vs out at h ∙ append-assoc (take at out) vs (drop (at + length vs) out)
 
@@ -24,7 +24,7 @@ pub over-front : (p out : List ℕ) → take (length p) (over p out) ≡ p
 unfolding over
 over-front p out = take-append-seam p (drop (length p) out)
 
--- more bytes put behind those written over the front
+-- more bytes put after those written over the front
 pub put-over : (p s out o : List ℕ) (at : ℕ) → at ≡ length p → o ≡ over p out → put at s o ≡ over (p ++ s) out
 unfolding over
 put-over p s out o at ea eo =

@@ -17,7 +17,7 @@ use Rattle.frame.proofs.Announced.{format-first, none-refuses}
 use Rattle.frame.proofs.Starts.{extra-at}
 use Rattle.frame.proofs.RoundTrip.{built-taken, built-front}
 
--- a frame of this form has the length n in its format byte wherever it may stand there, and otherwise behind its addresses
+-- a frame of this form has the length n in its format byte wherever it may stand there, and otherwise after its addresses
 pub record LengthAt (kb1 n : ℕ) (form : Form) (frame : List ℕ) : Type 0 where
   pub in-format : Placed kb1 Format n → getD frame 0 0 ≡ topBits form + n
   pub in-extra : (Placed kb1 Format n → ⊥)

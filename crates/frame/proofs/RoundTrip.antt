@@ -60,7 +60,7 @@ module _ (kb1 kb2 : ℕ) (form : Form) (place : Place) (t s : ℕ) (d : List ℕ
         whole-starts .source-is,
       )
 
-  -- EVERY ANNOUNCED FRAME READS BACK, and its front fixes it whatever stands behind
+  -- EVERY ANNOUNCED FRAME READS BACK, and its front fixes it whatever stands after
   pub frame-reads-back : ReadsBack kb1 kb2 form t s d (frameOf form place t s d)
   unfolding dataOf
   frame-reads-back = record {

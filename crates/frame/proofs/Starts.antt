@@ -1,5 +1,5 @@
 -- What reading sees at the front of any bytes that start with a frame: the frame's own form, place, length, addresses and data, whatever
--- stands behind it. So a frame's end is fixed by its front. Assumes nothing.
+-- stands after it. So a frame's end is fixed by its front. Assumes nothing.
 use mathlib.Core.Path.{_≡_, refl, ap, _∙_}
 use mathlib.Core.Bool.{true}
 use mathlib.Core.List.{List, [], _∷_, _++_, append-assoc}
@@ -66,7 +66,7 @@ place-back kb1 form Format n p = rw (low-back form n (p .2), ne-eqb n 0 (λ e. o
 place-back kb1 form Extra n p = rw (low-back form 0 (omega arith), p .0)
 place-back kb1 form Nowhere n p = absurd p
 
--- the extra byte stands behind the addresses
+-- the extra byte stands after the addresses
 pub extra-at : (form : Form) (t s n f : ℕ) (rest : List ℕ) → getD (f ∷ ((addressesOf form t s ++ (n ∷ [])) ++ rest)) (1 + addressCount form) 0 ≡ n
 unfolding addressesOf addressCount
 extra-at Plain t s n f rest = refl
@@ -81,7 +81,7 @@ length-back kb1 form Format t s n rest p = rw (low-back form n (p .2), ne-eqb n 
 length-back kb1 form Extra t s n rest p = rw (low-back form 0 (omega arith)) (extra-at form t s n (topBits form + 0) rest)
 length-back kb1 form Nowhere t s n rest p = absurd p
 
--- target and source stand behind the format byte, where the form has them
+-- target and source stand after the format byte, where the form has them
 target-at : (form : Form) (t s f : ℕ) (more : List ℕ) → carried form (getD (f ∷ (addressesOf form t s ++ more)) 1 0) ≡ carried form t
 unfolding carried addressesOf
 target-at Plain t s f more = refl
@@ -96,7 +96,7 @@ source-at Physical t s f more = refl
 source-at Functional t s f more = refl
 source-at Foreign t s f more = refl
 
--- a head, its data, and anything behind
+-- a head, its data, and anything after
 pub head-starts : (kb1 : ℕ) (form : Form) (place : Place) (t s : ℕ) (d rest : List ℕ) → Placed kb1 place (length d)
     → Starts kb1 (headOf form place t s (length d) ++ (d ++ rest)) form place t s d
 unfolding headOf
@@ -114,7 +114,7 @@ head-starts kb1 form place t s d rest p =
       data-is = ap (take n) (drop-at (headOf form place t s n) tail (headSize form place) (head-length form place t s n)) ∙ take-append-seam d rest;
     }
 
--- a frame, and anything behind
+-- a frame, and anything after
 pub frame-apart : (form : Form) (place : Place) (t s : ℕ) (d rest : List ℕ)
     → frameOf form place t s d ++ rest ≡ headOf form place t s (length d) ++ (d ++ (checksumOf (bodyOf form place t s d) ∷ rest))
 unfolding frameOf bodyOf

@@ -127,7 +127,7 @@ format-made f h =
     (λ n1. by-test (λ (x : Form). f ≡ topBits x + f % 64) (eqb (f / 64) 2) (λ e. let a = eqb-true (f / 64) 2 e in omega arith)
     (λ n2. top-three f h (eqb-false (f / 64) 0 n0) (eqb-false (f / 64) 1 n1) (eqb-false (f / 64) 2 n2))))
 
--- the place that is read, with the length n and the byte b behind the addresses
+-- the place that is read, with the length n and the byte b after the addresses
 record PlacedWell (kb1 f b n : ℕ) (place : Place) : Type 0 where
   low : lowBits place n ≡ f % 64
   placed : Placed kb1 place n

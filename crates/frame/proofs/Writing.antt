@@ -1,4 +1,4 @@
--- How `put_head` and `write` put the parts of a frame one behind the other: each is a law over the buffers in between. Assumes nothing.
+-- How `put_head` and `write` put the parts of a frame one after another: each is a law over the buffers in between. Assumes nothing.
 use mathlib.Core.Path.{_≡_, refl, sym, ap, _∙_}
 use mathlib.Core.List.{List, [], _∷_, _++_}
 use Prim.Native.Nat.{ℕ, _+_, _<_}

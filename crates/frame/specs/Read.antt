@@ -27,7 +27,7 @@ placeRead kb1 f =
     if eqb (f % 64) 0 then (if extraLength kb1 then Extra else Nowhere) else
     (if lengthInFormat kb1 then Format else Nowhere)
 
--- the length: the low six bits, or where these are 0 the byte at an index, 0 where the slice has none; that index is behind the addresses
+-- the length: the low six bits, or where these are 0 the byte at an index, 0 where the slice has none; that index is after the addresses
 unfoldable pub lengthRead : List ℕ → ℕ → ℕ → ℕ
 lengthRead s f at = if eqb (f % 64) 0 then getD s at 0 else f % 64
 
@@ -78,7 +78,7 @@ readOf kb1 kb2 s = if not (goodPair kb1 kb2) then notRead badKeys else judged s 
 unfoldable pub dataOf : ℕ → ℕ → List ℕ → List ℕ
 dataOf kb1 kb2 s = take (readOf kb1 kb2 s .len) (drop (readOf kb1 kb2 s .start) s)
 
--- what `contents` promises: the data's bytes, and that they stand in the slice where `readOf` says, so many bytes behind its start
+-- what `contents` promises: the data's bytes, and that they stand in the slice where `readOf` says, so many bytes after its start
 pub record DataIn (kb1 kb2 : ℕ) (s r : RefT (List ℕ)) : Type 0 where
   pub bytes : now r ≡ dataOf kb1 kb2 (now s)
   pub place : r .ptr ≡ (s .ptr .0, s .ptr .1 + readOf kb1 kb2 (now s) .start)

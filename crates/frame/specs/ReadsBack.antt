@@ -14,7 +14,7 @@ use Rattle.frame.specs.declared.Built.{Built}
 pub record ReadsBack (kb1 kb2 : ℕ) (form : Form) (t s : ℕ) (d frame : List ℕ) : Type 0 where
   -- where the data starts
   pub start : ℕ
-  -- of the frame with anything behind it, its front gives the form, the length, and so the end ..
+  -- of the frame with anything after it, its front gives the form, the length, and so the end ..
   pub laid : (rest : List ℕ) → laidOf kb1 (frame ++ rest) ≡ record { no = taken; form = form; start = start; len = length d }
   pub ends : (rest : List ℕ) → take (start + length d + 1) (frame ++ rest) ≡ frame
   -- .. and the addresses that it carries and the data stand where they do in the frame
@@ -27,7 +27,7 @@ pub record ReadsBack (kb1 kb2 : ℕ) (form : Form) (t s : ℕ) (d frame : List �
 
 -- what `build` left, where it answers 0
 pub record BuiltReadsBack (p : Plan) (bytes out : List ℕ) (r : Built) (after : List ℕ) : Type 0 where
-  -- the frame stands at the front, and what stood behind it still does
+  -- the frame stands at the front, and what stood after it still does
   pub frame : List ℕ
   pub size : r .len ≡ length frame
   pub memory : after ≡ frame ++ drop (length frame) out

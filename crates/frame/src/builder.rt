@@ -45,7 +45,7 @@ fn build_no(p: Plan, n: usize, room: usize) -> u8
     base::TAKEN
 }
 
-// Writes the addresses behind the format byte, and says where the next byte goes.
+// Writes the addresses after the format byte, and says where the next byte goes.
 fn put_addresses(form: Form, target: u8, source: u8, out: &mut [u8]) -> usize
     requires { ⌜ 1 + addressCount form ≤ length (now out) ⌝ }
     ensures { λ r. ⌜ (r ≡ 1 + addressCount form) × (now (out .exit) ≡ put 1 (addressesOf form target source) (now (out .entry))) ⌝ }
@@ -89,7 +89,7 @@ fn put_head(form: Form, place: Place, p: Plan, n: u8, out: &mut [u8]) -> usize
     put_extra(place, n, a, out)
 }
 
-// Writes one byte, and nothing behind it.
+// Writes one byte, and nothing after it.
 fn put_byte(x: u8, at: usize, out: &mut [u8])
     requires { ⌜ at < length (now out) ⌝ }
     ensures { λ _. ⌜ now (out .exit) ≡ set (now (out .entry)) at x ⌝ }
@@ -112,7 +112,7 @@ fn write(form: Form, place: Place, p: Plan, bytes: &[u8], out: &mut [u8]) -> usi
     e + 1
 }
 
-// Builds a frame at the front of `out`, and touches nothing behind it. A refusal touches nothing at
+// Builds a frame at the front of `out`, and touches nothing after it. A refusal touches nothing at
 // all: 5 the key bytes, 6 the form, 7 the length, 8 the room, the first that applies.
 pub fn build(p: Plan, bytes: &[u8], out: &mut [u8]) -> Built
     ensures { λ r. ⌜ Builds p (now (bytes .entry)) (now (out .entry)) r (now (out .exit)) ⌝ }

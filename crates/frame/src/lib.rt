@@ -8,7 +8,7 @@ pub use layout::format_form;
 pub use reader::contents;
 pub use reader::read;
 
-// Where a length stands: in the format byte, in an extra byte behind the addresses, or nowhere.
+// Where a length stands: in the format byte, in an extra byte after the addresses, or nowhere.
 enum Place {
     Format,
     Extra,

@@ -108,7 +108,7 @@ fn not_read(no: u8) -> Reading
     }
 }
 
-// Where a frame ends whose data ends at e: behind the checksum, which the length does not count.
+// Where a frame ends whose data ends at e: after the checksum, which the length does not count.
 fn end_of(e: usize) -> usize
     requires { ⌜ e ≤ 510 ⌝ }
     ensures { λ r. ⌜ r ≡ e + 1 ⌝ }

@@ -250,7 +250,7 @@ kept : (t : Bool) (r : Reading) (l : List ℕ) → isWhole (readAll (if t then u
 kept true r l e = absurd (dead l e)
 kept false r l e = (refl, e)
 
--- ---- digits behind c others, up to the line's end
+-- ---- digits after c others, up to the line's end
 record Rest (c : ℕ) (l : List ℕ) : Type 0 where
   some : 1 ≤ c + length l
   few : c + length l ≤ 13
@@ -343,7 +343,7 @@ space-only r b next l e =
     let p = passed (eqb b 0x20) (timed r (r .start) (r .end) (r .digits) next) l e in
     (eqb-true b 0x20 (p .0), p .1)
 
--- behind a space the only time
+-- after a space the only time
 record OneTime (l : List ℕ) : Type 0 where
   time : List ℕ
   digits : Digits time
@@ -356,7 +356,7 @@ one-only kind (b ∷ l) e =
     let p = space-only (at kind Nobody 0 0 0 0 BeforeTime) b Time l e in
     record { time = l; digits = rest-all l (time-only kind Nobody 0 0 0 0 l (omega arith) (p .1)); whole = ap (λ (x : ℕ). x ∷ l) (p .0) }
 
--- two times, each behind a space
+-- two times, each after a space
 record TwoTimes (l : List ℕ) : Type 0 where
   first : List ℕ
   second : List ℕ
@@ -475,7 +475,7 @@ unfolding readAll readByte sideBy isWhole isLast
 side-only [] e = absurd (false≢true e)
 side-only (b ∷ l) e = side-by b l (eqb b 0x74) (eqb b 0x65) refl refl e
 
--- ---- each kind, behind its letter
+-- ---- each kind, after its letter
 address-only : (l : List ℕ) → isWhole (readAll (at Address Nobody 0 0 0 0 BeforeHex) l) ≡ true → Form (0x41 ∷ l)
 address-only l e =
     let w = value-only Address Nobody l e in

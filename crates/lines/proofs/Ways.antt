@@ -74,12 +74,12 @@ takes-end : (side : Side) (value start : ℕ) → Takes (λ n c. reads side valu
 unfolding reads readByte endRead takesDigit digitOn
 takes-end side value start n c b e h l = rw (e, lt-ltb c 13 h, mod-eq-of-lt l)
 
--- the space behind the first time
+-- the space after the first time
 start-over : (side : Side) (value n c : ℕ) → 0 < c → readByte (reads side value n 0 c Start) 0x20 ≡ reads side value n 0 0 End
 unfolding reads readByte startRead takesDigit isDigit
 start-over side value n c h = rw (lt-ltb 0 c h)
 
--- the line feed behind the second
+-- the line feed after the second
 end-over : (side : Side) (value start n c at : ℕ) → 0 < c
     → ended (reads side value start n c End) at
     ≡ rowGot (record { event = record { start = micros start; end = micros n; kind = Byte; side = side; value = value }; to = at })

@@ -19,7 +19,7 @@ ended r at = record { event = eventOf r; reading = freshReading; at = at; whole 
 unfoldable pub cutOff : Reading → ℕ → Got
 cutOff r at = record { event = noEvent; reading = r; at = at; whole = false }
 
--- The rest of a line of which r was read: up to its line feed, or to the part's end. The bytes stand at `at` and behind.
+-- The rest of a line of which r was read: up to its line feed, or to the part's end. The bytes stand at `at` and after.
 unfoldable pub gotOf : Reading → List ℕ → ℕ → Got
 gotOf r [] at = cutOff r at
 gotOf r (b ∷ bs) at = if eqb b lineFeed then ended r (at + 1) else gotOf (readByte r b) bs (at + 1)

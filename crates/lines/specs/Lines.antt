@@ -90,7 +90,7 @@ takesDigit r b = isDigit b && ltb (r .digits) 13
 unfoldable pub timeRead : Reading → ℕ → Reading
 timeRead r b = if takesDigit r b then timed r (digitOn (r .start) b) (digitOn (r .start) b) (r .digits + 1) Time else unreadable
 
--- the first of two times, and the space behind it
+-- the first of two times, and the space after it
 unfoldable pub startRead : Reading → ℕ → Reading
 startRead r b =
     if takesDigit r b then timed r (digitOn (r .start) b) (r .end) (r .digits + 1) Start else

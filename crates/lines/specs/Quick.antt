@@ -17,7 +17,7 @@ use Rattle.lines.specs.declared.quick.Span.{Span}
 use Rattle.lines.specs.declared.Row.{Row}
 use Rattle.lines.specs.declared.Got.{Got}
 
--- at most k digits from i on, behind those that gave n: the number, and the place behind them
+-- at most k digits from i on, after those that gave n: the number, and the place after them
 unfoldable pub digitsAt : List ℕ → ℕ → ℕ → ℕ → Span
 digitsAt s zero i n = record { value = n; to = i }
 digitsAt s (suc k) i n =
@@ -26,7 +26,7 @@ digitsAt s (suc k) i n =
 abbrev pub noRow : Row
 noRow = record { event = noEvent; to = 0 }
 
--- two times, with a space between and a line feed behind
+-- two times, with a space between and a line feed after
 unfoldable pub secondAt : List ℕ → ℕ → ℕ → Side → ℕ → Row
 secondAt s i start side value =
     let u = digitsAt s 13 i 0 in

@@ -185,7 +185,7 @@ fn read_time(r: Reading, b: u8) -> Reading
     give_up()
 }
 
-// A byte of the first of two times, or the space behind it.
+// A byte of the first of two times, or the space after it.
 fn read_start(r: Reading, b: u8) -> Reading
     ensures { λ x. ⌜ x ≡ startRead r b ⌝ }
 {

@@ -45,7 +45,7 @@ pub struct Reading {
 }
 
 // What a part of the input has from a place on: the event of a line, if the line ends in the part;
-// what is read of the line behind; the place behind the bytes that were read.
+// what is read of the line after; the place after the bytes that were read.
 pub struct Got {
     pub event: Event,
     pub reading: Reading,
@@ -53,7 +53,7 @@ pub struct Got {
     pub whole: bool,
 }
 
-// A byte's line that was read at once, and the place behind it: 0 where there is none.
+// A byte's line that was read at once, and the place after it: 0 where there is none.
 pub struct Row {
     pub event: Event,
     pub to: usize,

@@ -12,7 +12,7 @@ use events::Kind;
 use events::Side;
 use units::Micros;
 
-// A number, and the place behind its digits.
+// A number, and the place after its digits.
 struct Span {
     value: u64,
     to: usize,
@@ -54,7 +54,7 @@ fn digits(s: &[u8], at: usize) -> Span
     Span { value: v, to: i }
 }
 
-// The second time, and the line feed behind it.
+// The second time, and the line feed after it.
 fn second(s: &[u8], at: usize, start: u64, side: Side, value: u8) -> Row
     requires { ⌜ at + 14 ≤ length (now s) ⌝ }
     ensures { λ r. ⌜ r ≡ secondAt (now (s .entry)) at start side value ⌝ }

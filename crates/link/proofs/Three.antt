@@ -55,7 +55,7 @@ toEnd Quiet reply = if isFirst reply then 2 else 1
 toEnd Held reply = 2
 toEnd Damage reply = 2
 
--- .. for a stop, behind a byte that leaves nothing open ..
+-- .. for a stop, after a byte that leaves nothing open ..
 unfoldable toStop : State → ℕ
 toStop Down = 0
 toStop Starting = 0

@@ -1,4 +1,4 @@
--- The reports of an event's moves, one behind the other, whatever places there are: a move has at most one, and an event's moves are those of `handled`.
+-- The reports of an event's moves, one after another, whatever places there are: a move has at most one, and an event's moves are those of `handled`.
 -- Assumes nothing.
 use Prim.Native.Nat.{ℕ}
 use mathlib.Core.List.{List, [], _∷_, _++_}

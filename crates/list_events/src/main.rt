@@ -9,7 +9,7 @@ use libc::STDIN_FILENO;
 use libc::STDOUT_FILENO;
 use listing::Lister;
 
-// The lister behind so many bytes of a part, and whether all that was written went out.
+// The lister after so many bytes of a part, and whether all that was written went out.
 struct Sent {
     lister: Lister,
     at: usize,

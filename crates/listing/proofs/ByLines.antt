@@ -59,7 +59,7 @@ pub unread-line : (x : Lister) (l : List ℕ) → (Form l → ⊥) → (saidOf x
 unread-line x l f = rw (no-other-form l f) (unread-said x, unread-still x)
 
 -- ---- THE WHOLE INPUT
--- The lines of an input in other words: a line that a line feed ends is the first, and the lines of what stands behind follow ..
+-- The lines of an input in other words: a line that a line feed ends is the first, and the lines of what stands after follow ..
 pub lines-line : (l bs : List ℕ) → Plain l → linesOf (l ++ (lineFeed ∷ bs)) ≡ l ∷ linesOf bs
 unfolding linesOf
 lines-line [] bs p = refl

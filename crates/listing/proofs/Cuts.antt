@@ -18,7 +18,7 @@ pub record Call : Type 0 where
   pub offered : List ℕ
   pub room : ℕ
 
--- calls one after another, each with the lister that the one before gave: the lister behind them, ..
+-- calls one after another, each with the lister that the one before gave: the lister after them, ..
 abbrev pub listerAfter : Lister → List Call → Lister
 listerAfter l [] = l
 listerAfter l (c ∷ cs) = listerAfter (partOf l (c .offered) (c .room) .feed .lister) cs
@@ -53,7 +53,7 @@ feed-said (b ∷ bs) l o =
     ap (λ (x : Feed). feed x bs) (byte-said l o b (eqb b 10) refl)
     ∙ (h ∙ rw g (ap (λ (x : List ℕ). record { lister = feed (record { lister = f .lister; said = [] }) bs .lister; said = x }) (append-assoc o (f .said) (feed (record { lister = f .lister; said = [] }) bs .said))))
 
--- parts one behind the other
+-- parts one after another
 pub feed-append : (f : Feed) (a b : List ℕ) → feed f (a ++ b) ≡ feed (feed f a) b
 unfolding feed
 feed-append f [] b = refl

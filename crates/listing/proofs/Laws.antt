@@ -140,7 +140,7 @@ ran-silent : (k : Link) (c : Counts) (rd : Reading) (e : Event) → runsOn k c e
 unfolding saidOf answerText reportsText listed
 ran-silent k c rd e h = rw (runs-on k c e h)
 
--- the line of such a byte is what its bytes give, and ends behind its place
+-- the line of such a byte is what its bytes give, and ends after its place
 run-line : (rd : Reading) (s : List ℕ) (at : ℕ) (q : Row) → isEmpty rd ≡ true → q ≡ rowOf s at → (q .to ≡ 0 → ⊥) → rowGot q ≡ gotOf rd (drop at s) at
 run-line rd s at q e f t = rw f (sym (row-line s rd at e (λ z. t (ap (λ (k : Row). k .to) f ∙ z))))
 
@@ -166,7 +166,7 @@ run-takes room k c rd s o at q e f t r h =
     let w = whole-on room (listerOf k c rd) s o at (rowGot q) (run-line rd s at q e f t) refl h in
     rw (ran-step k c rd (q .event) r, ran-silent k c rd (q .event) r, append-nil o) at w
 
--- the reading behind none is the one in front, and behind some a fresh one
+-- the reading after none is the one in front, and after some a fresh one
 after-none : (rd : Reading) (from : ℕ) → readingAfter rd from from ≡ rd
 unfolding readingAfter
 after-none rd from = rw (eq-eqb from from refl)

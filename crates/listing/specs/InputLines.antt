@@ -11,7 +11,7 @@ abbrev pub onFirst : ℕ → List (List ℕ) → List (List ℕ)
 onFirst b [] = (b ∷ []) ∷ []
 onFirst b (l ∷ ls) = (b ∷ l) ∷ ls
 
--- The lines of an input: what stands in front of each line feed, and what stands behind the last one, if that is not empty. An empty input has none;
+-- The lines of an input: what stands in front of each line feed, and what stands after the last one, if that is not empty. An empty input has none;
 -- a line feed alone has one, which is empty.
 unfoldable pub linesOf : List ℕ → List (List ℕ)
 linesOf [] = []

@@ -26,7 +26,7 @@ pub record Acted (l : Lister) (e : Event) (at put : ℕ) (out : List ℕ) (r : P
   pub place : r .at ≡ at
   pub wrote : Puts put (saidOf l e) answerMost out (r .put) after
 
--- the reading behind the lines between two places: the one in front of them if there are none
+-- the reading after the lines between two places: the one in front of them if there are none
 unfoldable pub readingAfter : Reading → ℕ → ℕ → Reading
 readingAfter r from at = if eqb from at then r else freshReading
 

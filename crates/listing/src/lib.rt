@@ -30,7 +30,7 @@ pub struct Part {
     pub put: usize,
 }
 
-// How far bytes went on with the message held: link and counts behind them, the place of the next
+// How far bytes went on with the message held: link and counts after them, the place of the next
 // line, and that line if it was read at once.
 struct Stretch {
     link: Link,
@@ -148,7 +148,7 @@ fn stretch_from(l: Lister, s: &[u8], from: usize) -> Stretch
     }
 }
 
-// The reading behind so many lines: the one in front of them if there are none.
+// The reading after so many lines: the one in front of them if there are none.
 fn reading_after(r: Reading, from: usize, at: usize) -> Reading
     ensures { λ x. ⌜ x ≡ readingAfter r from at ⌝ }
 {

@@ -1,4 +1,4 @@
--- What time, a closing event, a start and a byte do to a link: each rule is a move, a report (none if its number is 0) and the phase behind it
+-- What time, a closing event, a start and a byte do to a link: each rule is a move, a report (none if its number is 0) and the phase after it
 -- (document 01, "Events and what the link does").
 -- Assumes nothing.
 use Prim.Native.Nat.{ℕ}
@@ -72,7 +72,7 @@ closing p =
     if isOpen (p .state) then makes damageReport (lossReason p closed) (settled p) else
     if isStarting (p .state) then makes failedReport closed off else still p
 
--- "if connected, report 7 (reason 4 for A or W, 3 for D), down": behind `closing`, so that a connected link has nothing open
+-- "if connected, report 7 (reason 4 for A or W, 3 for D), down": after `closing`, so that a connected link has nothing open
 unfoldable pub leaving : Phase → ℕ → Move
 leaving p reason = if isQuiet (p .state) then makes downReport reason off else still p
 

@@ -17,7 +17,7 @@ pub use passing::leave;
 pub use passing::since_origin;
 use phases::Phase;
 
-// A rule's outcome: the phase behind it, and a report, none if its number is 0.
+// A rule's outcome: the phase after it, and a report, none if its number is 0.
 pub struct Move {
     pub phase: Phase,
     pub number: u8,

@@ -55,7 +55,7 @@ fn make_report(r: Run, number: u8, reason: u8) -> Report
     }
 }
 
-// A report behind the others.
+// A report after the others.
 fn append(rs: Reports, r: Report) -> Reports
     ensures { λ x. ⌜ x ≡ appended rs r ⌝ }
 {

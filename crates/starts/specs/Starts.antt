@@ -65,7 +65,7 @@ originOf stage fall mark = if dueAt stage .opening then fall else mark
 unfoldable pub complement : ℕ → ℕ
 complement x = 255 - x
 
--- "any of the four layouts in mode 00 or 10" of three data bytes: with target and source or not, the length in the format byte or behind it
+-- "any of the four layouts in mode 00 or 10" of three data bytes: with target and source or not, the length in the format byte or after it
 unfoldable pub isReplyFormat : ℕ → Bool
 isReplyFormat v = eqb v 0x03 || eqb v 0x00 || eqb v 0x83 || eqb v 0x80
 
@@ -122,7 +122,7 @@ afterFormat v =
     if eqb v 0x80 then LongTarget else
     if eqb v 0x00 then Length else Service
 
--- one byte more, and its next stage: the sum counts it; KB1 and KB2 are kept as they come; behind the request's checksum the sum of the reply begins
+-- one byte more, and its next stage: the sum counts it; KB1 and KB2 are kept as they come; after the request's checksum the sum of the reply begins
 abbrev pub passedOn : Start → ℕ → Stage → Start
 passedOn s v stage = record { stage = stage; address = s .address; sum = byteSum (s .sum) v; pair = s .pair }
 

@@ -220,7 +220,7 @@ pub fn is_past(s: Start, gap: Micros) -> bool
     units::earlier(d.latest, gap)
 }
 
-// The stage behind the reply's format byte.
+// The stage after the reply's format byte.
 fn after_format(v: u8) -> Stage
     ensures { λ r. ⌜ r ≡ afterFormat v ⌝ }
 {
@@ -292,7 +292,7 @@ fn end_request(s: Start, stage: Stage) -> Start
     }
 }
 
-// The initialization behind a byte that fits.
+// The initialization after a byte that fits.
 pub fn go_onward(s: Start, v: u8) -> Start
     ensures { λ r. ⌜ r ≡ onward s v ⌝ }
 {

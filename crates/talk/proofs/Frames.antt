@@ -31,12 +31,12 @@ use Rattle.talk.specs.declared.Part.{Part}
 use Rattle.talk.specs.declared.Part.the-variants.{Target}
 use Rattle.talk.specs.declared.Message.{Message}
 
--- ---- what both come to, behind the format byte and the addresses
--- so many data bytes and, behind the sum k of all before them, their checksum
+-- ---- what both come to, after the format byte and the addresses
+-- so many data bytes and, after the sum k of all before them, their checksum
 abbrev closes : ℕ → ℕ → List ℕ → Bool
 closes k n vs = eqb (length vs) (n + 1) && eqb ((k + total (take n vs)) % 256) (getD vs n 0)
 
--- behind the addresses: the length, which is the low six bits or the next byte, and what it announces
+-- after the addresses: the length, which is the low six bits or the next byte, and what it announces
 abbrev closesBy : Bool → ℕ → ℕ → List ℕ → Bool
 closesBy false low k vs = closes k low vs
 closesBy true low k [] = false
@@ -72,7 +72,7 @@ closes-by-mod true low k k′ [] e = refl
 closes-by-mod true low k k′ (l ∷ vs) e = ap (λ (b : Bool). not (eqb l 0) && b) (closes-mod (k + l) (k′ + l) l vs (omega arith))
 
 -- ---- the reader
--- a slice with n data bytes behind a head of h bytes
+-- a slice with n data bytes after a head of h bytes
 abbrev whole : ℕ → ℕ → List ℕ → Bool
 whole h n s = not (eqb n 0) && (eqb (length s) (h + n + 1) && eqb (checksumOf (take (h + n) s)) (getD s (h + n) 0))
 
@@ -205,7 +205,7 @@ length-rule : (none x y : Bool) → (none ≡ false → x ≡ y) → (if not (eq
 length-rule true x y h = refl
 length-rule false x y h = h refl
 
--- behind the addresses: the length byte, if it is not in the format byte, the data and the checksum
+-- after the addresses: the length byte, if it is not in the format byte, the data and the checksum
 length-ends : (extra : Bool) (side : Side) (low sum : ℕ) → eqb low 0 ≡ extra → low < 256 → sum < 256 → (vs : List ℕ) → getD vs 0 0 < 256
     → endsIn side (fresh side (afterAddresses extra) extra low sum) vs ≡ closesBy extra low sum vs
 unfolding laterReason isSum grown afterAddresses afterData byteSum
@@ -218,7 +218,7 @@ length-ends true side low sum e hl hs (l ∷ vs) hv =
     rw (lt-ltb 0 l (omega (arith, eqb-false l 0 z))) at (data-ends l side 0 true l 0 (byteSum sum l) 0 (omega arith) hv (omega arith) vs)
     ∙ closes-mod (byteSum sum l) (sum + l) l vs (omega arith)))
 
--- ---- both, behind the format byte
+-- ---- both, after the format byte
 -- in forms with addresses target and source come first
 address-ends : (extra : Bool) (side : Side) (low f : ℕ) → eqb low 0 ≡ extra → low < 256 → f < 256 → (vs : List ℕ) → getD vs 2 0 < 256
     → endsIn side (fresh side Target extra low f) vs ≡ whole (3 + (if extra then 1 else 0)) (if extra then getD (f ∷ vs) 3 0 else low) (f ∷ vs)

@@ -10,7 +10,7 @@ use Rattle.events.specs.declared.Side.{Side}
 use Rattle.talk.specs.Talk.{headReason, begun, laterReason, isSum, grown}
 use Rattle.talk.specs.declared.Message.{Message}
 
--- the bytes behind a message's first one end it in a frame with the last of them, by the rules for later bytes
+-- the bytes after a message's first one end it in a frame with the last of them, by the rules for later bytes
 abbrev pub endsIn : Side → Message → List ℕ → Bool
 endsIn side m [] = false
 endsIn side m (v ∷ vs) =

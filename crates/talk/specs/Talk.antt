@@ -134,7 +134,7 @@ number (b ∷ bs) = b * 256 ^ length bs + number bs
 unfoldable pub withSeven : ℕ → ℕ → ℕ → ℕ
 withSeven seven at v = if ltb at 7 then seven % 256 ^ 6 * 256 + v else seven
 
--- the part behind a data byte, when so many have come
+-- the part after a data byte, when so many have come
 unfoldable pub afterData : ℕ → ℕ → Part
 afterData at length = if ltb at length then Data else Sum
 

@@ -172,7 +172,7 @@ pub fn first_reason(pair: Pair, reply: Reply, w: Windows, side: Side, f: u8, gap
     turn
 }
 
-// The part behind the addresses.
+// The part after the addresses.
 fn after_addresses(extra: bool) -> Part
     ensures { λ r. ⌜ r ≡ afterAddresses extra ⌝ }
 {
@@ -182,7 +182,7 @@ fn after_addresses(extra: bool) -> Part
     Part::Data
 }
 
-// The part behind the format byte.
+// The part after the format byte.
 fn part_after_format(form: Form, extra: bool) -> Part
     ensures { λ r. ⌜ r ≡ partAfterFormat form extra ⌝ }
 {
@@ -261,7 +261,7 @@ fn with_seven(seven: u64, at: u8, v: u8) -> u64
     seven
 }
 
-// The part behind a data byte.
+// The part after a data byte.
 fn after_data(at: u8, length: u8) -> Part
     ensures { λ r. ⌜ r ≡ afterData at length ⌝ }
 {

@@ -1,4 +1,4 @@
--- Laws for the crates above: texts written one behind the other, how long they are, and the two promises, one from the other.
+-- Laws for the crates above: texts written one after another, how long they are, and the two promises, one from the other.
 -- Assumes nothing.
 use Prim.Native.Nat.{ℕ, _+_, _*_, _≤_}
 use mathlib.Core.Path.{_≡_, refl, sym, _∙_}
@@ -17,7 +17,7 @@ use Rattle.text.specs.Text.{space, lineFeed, digitCount, numberText, lin
 use Rattle.text.specs.Text.{numberMost, headMost, lineMost, reportsMost, refusedMost, endMost}
 use Rattle.text.proofs.Spelling.{length-digits, count-few}
 
--- a text behind another
+-- a text after another
 drop-past : (x r : List ℕ) (n m : ℕ) → length x ≡ n → drop (n + m) (x ++ r) ≡ drop m r
 drop-past x r n m e = rw (← e) (drop-append-add x r m)
 
@@ -49,7 +49,7 @@ put-nil at out = let z : at + 0 ≡ at = omega arith in rw z (take-append-drop a
 pub puts-nil : (at : ℕ) (out : List ℕ) → Puts at [] 0 out at out
 puts-nil at out = record { place = omega arith; small = omega arith; memory = sym (put-nil at out); kept = refl }
 
--- two texts written one behind the other are one text written
+-- two texts written one after another are one text written
 pub puts-join : (at : ℕ) (p q : List ℕ) (m n : ℕ) (out : List ℕ) (a : ℕ) (o1 : List ℕ) (r : ℕ) (o2 : List ℕ) → at + m ≤ length out
     → Puts at p m out a o1 → Puts a q n o1 r o2 → Puts at (p ++ q) (m + n) out r o2
 puts-join at p q m n out a o1 r o2 h u v =

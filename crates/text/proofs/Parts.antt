@@ -20,7 +20,7 @@ use Rattle.text.specs.Text.{numberMost, lineMost, reportsMost, endMost}
 use Rattle.text.proofs.Spelling.{length-digits}
 use Rattle.text.proofs.Laws.{put-put, length-put, put-nil, puts-nil, puts-join, reports-small}
 
--- a number: its digits, and the byte behind them
+-- a number: its digits, and the byte after them
 pub put-one : (out : List ℕ) (i b : ℕ) → i < length out → set out i b ≡ put i (b ∷ []) out
 unfolding put
 put-one out i b h = let e : suc i ≡ i + 1 = omega arith in rw (set-split out i b h, e)
@@ -64,7 +64,7 @@ copied at n s out last en h e =
       kept = rw m (simp (length-append, length-take, length-drop) (omega arith));
     }
 
--- three numbers and five, one behind the other; and nothing behind the last
+-- three numbers and five, one after another; and nothing after the last
 pub puts-three : (at : ℕ) (p q s : List ℕ) (out : List ℕ) (a1 : ℕ) (o1 : List ℕ) (a2 : ℕ) (o2 : List ℕ) (r : ℕ) (o3 : List ℕ) → at + 3 * numberMost ≤ length out
     → Puts at p numberMost out a1 o1 → Puts a1 q numberMost o1 a2 o2 → Puts a2 s numberMost o2 r o3 → Puts at (p ++ (q ++ s)) (3 * numberMost) out r o3
 puts-three at p q s out a1 o1 a2 o2 r o3 h u v w =

@@ -26,16 +26,16 @@ unfoldable pub digitsOf : ℕ → ℕ → List ℕ
 digitsOf zero n = []
 digitsOf (suc k) n = digitsOf k (n / 10) ++ ((48 + n % 10) ∷ [])
 
--- a number of up to 20 digits with no zeros in front, and a byte behind it
+-- a number of up to 20 digits with no zeros in front, and a byte after it
 unfoldable pub numberText : ℕ → ℕ → List ℕ
 numberText n behind = digitsOf (digitCount 19 n) n ++ (behind ∷ [])
 
--- numbers with a space behind each
+-- numbers with a space after each
 unfoldable pub spacedText : List ℕ → List ℕ
 spacedText [] = []
 spacedText (n ∷ ns) = numberText n space ++ spacedText ns
 
--- a line of numbers: a space between two, a line feed behind the last
+-- a line of numbers: a space between two, a line feed after the last
 unfoldable pub lineText : List ℕ → List ℕ
 lineText [] = []
 lineText (n ∷ []) = numberText n lineFeed
@@ -70,7 +70,7 @@ endText c held =
     ++ lineText (c .heard ∷ c .framed ∷ c .damaged ∷ c .started ∷ c .outside ∷ c .frames ∷ c .damages ∷ held ∷ [])
 
 -- ---- the room for these texts, the most bytes that each has
--- a number: 20 digits, and the byte behind them
+-- a number: 20 digits, and the byte after them
 abbrev pub numberMost : ℕ
 numberMost = 21
 
@@ -104,12 +104,12 @@ abbrev pub fits : ℕ → ℕ → List ℕ → Bool
 fits at most out = leb (at + most) (length out)
 
 -- what a public function promises: where the buffer has `most` bytes or more from at on, the text p is written there and the answer is the place
--- behind it; where it has not, nothing is written and the answer is at
+-- after it; where it has not, nothing is written and the answer is at
 pub record Writes (p : List ℕ) (most at : ℕ) (out : List ℕ) (r : ℕ) (after : List ℕ) : Type 0 where
   pub place : r ≡ (if fits at most out then at + length p else at)
   pub memory : after ≡ (if fits at most out then put at p out else out)
 
--- what the functions below them promise: p, which has at most `most` bytes, was written at `at`, and r is the place behind it
+-- what the functions below them promise: p, which has at most `most` bytes, was written at `at`, and r is the place after it
 pub record Puts (at : ℕ) (p : List ℕ) (most : ℕ) (out : List ℕ) (r : ℕ) (after : List ℕ) : Type 0 where
   pub place : r ≡ at + length p
   pub small : length p ≤ most

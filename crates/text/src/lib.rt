@@ -1,5 +1,5 @@
 // The lines of a listing, written into a lent buffer at a place. Each function answers the place
-// behind what it wrote. Where the buffer has fewer bytes from that place on than the bound that stands
+// after what it wrote. Where the buffer has fewer bytes from that place on than the bound that stands
 // at the function, which no such text exceeds, it writes nothing and answers the place itself.
 mod writing;
 
@@ -17,7 +17,7 @@ const SPACE: u8 = 32;
 
 const LINE_FEED: u8 = 10;
 
-// The room for a text, the most bytes that it has: for a number with the byte behind it, ..
+// The room for a text, the most bytes that it has: for a number with the byte after it, ..
 const NUMBER_MOST: usize = 21;
 
 // .. the header, ..
@@ -105,7 +105,7 @@ pub fn put_refusal(out: &mut [u8], at: usize, no: u8) -> usize
     write_refusal(out, at, no)
 }
 
-// The counts of bytes, a space behind each.
+// The counts of bytes, a space after each.
 fn put_byte_counts(out: &mut [u8], at: usize, c: Counts) -> usize
     requires { ⌜ at + 5 * numberMost ≤ length (now out) ⌝ }
     ensures { λ r. ⌜ Puts at (spacedText (c .heard ∷ c .framed ∷ c .damaged ∷ c .started ∷ c .outside ∷ [])) (5 * numberMost)

@@ -1,5 +1,5 @@
 // A number and a text, written into a lent buffer that has room for them. Each function that
-// answers a place answers the one behind what it wrote.
+// answers a place answers the one after what it wrote.
 ghost use mathlib.Core.Path.{_≡_};
 ghost use Prim.Native.Nat.{_+_, _≤_};
 ghost use lib.Dec.{leb};
@@ -43,7 +43,7 @@ fn spell(out: &mut [u8], at: usize, n: u64, k: usize)
     }
 }
 
-// Writes a number with no zeros in front, and one byte behind it.
+// Writes a number with no zeros in front, and one byte after it.
 pub(crate) fn put_number(out: &mut [u8], at: usize, n: u64, behind: u8) -> usize
     requires { ⌜ at + numberMost ≤ length (now out) ⌝ }
     ensures { λ r. ⌜ Puts at (numberText n behind) numberMost (now (out .entry)) r (now (out .exit)) ⌝ }

@@ -21,7 +21,7 @@ use Rattle.timing.specs.declared.Decoded.{Decoded}
 use Rattle.timing.specs.declared.Encoded.{Encoded}
 
 -- The end of a window is a time, or no limit. No limit is a value of its own: it stands as the greatest number that a `Micros` holds, and a
--- definition that puts an end before or behind a time asks `isUnlimited` first.
+-- definition that puts an end before or after a time asks `isUnlimited` first.
 abbrev pub untilTime : Micros → Limit
 untilTime m = record { 0 = m }
 

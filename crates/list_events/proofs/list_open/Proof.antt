@@ -1,4 +1,4 @@
--- The header, and the listing behind it. Assumes nothing.
+-- The header, and the listing after it. Assumes nothing.
 use mathlib.Core.Path.{sym}
 use lib.Seq.{length-take-le}
 use native.Mathlib.Omega.{arith}

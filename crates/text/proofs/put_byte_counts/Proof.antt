@@ -1,4 +1,4 @@
--- `text::put_byte_counts` meets its contract: five numbers, one behind the other. Assumes nothing.
+-- `text::put_byte_counts` meets its contract: five numbers, one after another. Assumes nothing.
 use Rattle.text.specs.Text.{spacedText}
 use Rattle.text.proofs.Parts.{puts-five, puts-last}
 use borrow.Author.Needs.{needs}

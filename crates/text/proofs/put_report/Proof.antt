@@ -1,4 +1,4 @@
--- `text::put_report` meets its contract: five numbers, one behind the other. Assumes nothing.
+-- `text::put_report` meets its contract: five numbers, one after another. Assumes nothing.
 use Rattle.text.specs.Text.{lineText, reportText}
 use Rattle.text.proofs.Parts.{puts-five}
 use borrow.Author.Needs.{needs}

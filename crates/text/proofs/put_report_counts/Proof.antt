@@ -1,4 +1,4 @@
--- `text::put_report_counts` meets its contract: three numbers, one behind the other. Assumes nothing.
+-- `text::put_report_counts` meets its contract: three numbers, one after another. Assumes nothing.
 use Rattle.text.specs.Text.{lineText}
 use Rattle.text.proofs.Parts.{puts-three}
 use borrow.Author.Needs.{needs}

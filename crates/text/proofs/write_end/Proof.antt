@@ -1,4 +1,4 @@
--- `text::write_end` meets its contract: the word, the counts of bytes, and the rest behind them. Assumes nothing.
+-- `text::write_end` meets its contract: the word, the counts of bytes, and the rest after them. Assumes nothing.
 use borrow.Author.Needs.{needs}
 use Rattle.text.proofs.Parts.{puts-end}
 use Rattle.text.proofs.write_end.Statement.{statement}

@@ -1,4 +1,4 @@
--- `text::write_refusal` meets its contract: the word, and the number behind it. Assumes nothing.
+-- `text::write_refusal` meets its contract: the word, and the number after it. Assumes nothing.
 use borrow.Author.Needs.{needs}
 use Rattle.text.specs.Text.{lineText, refusedText}
 use Rattle.text.proofs.Laws.{puts-join}

@@ -1,4 +1,4 @@
--- `text::write_reports` meets its contract: as many lines as there are reports, one behind the other. Assumes nothing.
+-- `text::write_reports` meets its contract: as many lines as there are reports, one after another. Assumes nothing.
 use mathlib.Core.List.{[], _∷_}
 use native.Mathlib.Omega.{arith}
 use borrow.Author.Needs.{needs}

@@ -1,4 +1,4 @@
--- `frame::builder::put_head` meets its contract: the parts of the head stand one behind the other (`head-written`).
+-- `frame::builder::put_head` meets its contract: the parts of the head stand one after another (`head-written`).
 -- Assumes nothing.
 use Prim.Native.Nat.{ℕ, _+_}
 use mathlib.Core.Path.{_≡_, ap, _∙_}

@@ -1,4 +1,4 @@
--- `frame::builder::write` meets its contract: the head, the data and the checksum stand one behind the other (`frame-written`).
+-- `frame::builder::write` meets its contract: the head, the data and the checksum stand one after another (`frame-written`).
 -- Assumes nothing.
 use mathlib.Core.Path.{refl, sym, _∙_}
 use borrow.Author.Needs.{needs}

@@ -1,4 +1,4 @@
--- `text::writing::has_room` meets its contract: the room behind a place, and none where the place is outside. Assumes nothing.
+-- `text::writing::has_room` meets its contract: the room after a place, and none where the place is outside. Assumes nothing.
 use mathlib.Core.Path.{sym}
 use Prim.Native.Nat.{_+_}
 use native.Mathlib.Omega.{arith}

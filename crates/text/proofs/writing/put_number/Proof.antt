@@ -1,4 +1,4 @@
--- `text::writing::put_number` meets its contract: the digits, and the byte behind them. Assumes nothing.
+-- `text::writing::put_number` meets its contract: the digits, and the byte after them. Assumes nothing.
 use borrow.Author.Needs.{needs}
 use Rattle.text.proofs.Parts.{number-puts}
 use Rattle.text.proofs.writing.put_number.Statement.{statement}

@@ -1,0 +1,351 @@
+-- A session going on: what the link of a session keeps (`At`), and that it keeps it while time passes (`passed-step`). Of each report made on the way
+-- it is shown what `Shows` says.
+-- Assumes nothing.
+use Prim.Native.Nat.{ℕ, _+_}
+use mathlib.Core.Bool.{Bool, true, false, _||_, false≢true}
+use mathlib.Core.List.{List, _∷_, _++_, append-nil}
+use mathlib.Core.Path.{_≡_, refl, sym, ap, _∙_, subst}
+use mathlib.Core.Logic.{_↔_, _⊎_, ⊎-elim}
+use native.Mathlib.Omega.{arith}
+use lib.ListN.{length, drop}
+use Rattle.base.specs.Choice.{if_then_else_}
+use Rattle.base.specs.Reports.{frameReport, damageReport, noReplyReport, downReport, noReason, brokenOff, closed, early, stray, stopped, idleOver}
+use Rattle.units.specs.Units.{gapOf}
+use Rattle.units.specs.declared.Micros.{Micros}
+use Rattle.keys.specs.declared.Pair.{Pair}
+use Rattle.frame.specs.Read.{dataOf}
+use Rattle.events.specs.declared.Side.{Side}
+use Rattle.events.specs.declared.Side.the-variants.{Unit}
+use Rattle.events.specs.declared.Event.{Event}
+use Rattle.talk.specs.Talk.{headReason, firstReason}
+use Rattle.talk.specs.Talk.{begun as opening-message}
+use Rattle.talk.specs.declared.Reply.{Reply}
+use Rattle.talk.specs.declared.Reply.the-variants.{Never}
+use Rattle.phases.specs.Phases.{isStarting, isQuiet, isHeld, isOpen, isConnected, down, talking, settled}
+use Rattle.phases.specs.declared.Phase.{Phase}
+use Rattle.phases.proofs.StateTests.{never-starting, quiet-is, starting-is}
+use Rattle.moves.specs.Moves.{still, makes, lossReason, afterSilence, afterP2, afterP3}
+use Rattle.moves.specs.declared.Move.{Move}
+use Rattle.moves.proofs.Rules.{Moment, at-silence, at-p2, at-p3, at-window, at-closing, at-leaving, Closes, by-drop, by-address, by-wake-up, Unmoved, Rule, rests}
+use Rattle.moves.proofs.Rules.{breaks-off, waited, idled, expires, cuts-off, aborts, leaves, by-silence, by-p2, by-p3, by-window, one-move}
+use Rattle.reports.specs.Reporting.{namesBytes, reportOf, told, moved}
+use Rattle.reports.specs.declared.Report.{Report}
+use Rattle.reports.specs.declared.Run.{Run}
+use Rattle.link.specs.Handling.{passed}
+use Rattle.link.specs.Telling.{tells, passedTells}
+use Rattle.demands.specs.Logs.{Log, _▷_, bytesOf, heardIn, takenOf, Begins, more}
+use Rattle.demands.specs.Refusals.{Not}
+use Rattle.demands.specs.Editions.{isLinkPair, isFrame}
+use Rattle.demands.specs.Histories.{isAmong, Among, Tells}
+use Rattle.demands.specs.Accounts.{namedBy}
+use Rattle.demands.specs.Sessions.{Frames, stops, pendingIn, Talk, afterReport, talkAfter, inForce, gapBefore, Stray, Early}
+use Rattle.demands.proofs.Histories.BytesAsEvents.{talkBehind, talkReason, same-events}
+use Rattle.demands.proofs.Sessions.AfterFirstByte.{FirstOf, Speaking, Finishes, Turned}
+use Rattle.demands.proofs.Sessions.MessageData.{Kept, GoneOn}
+use Rattle.demands.proofs.Moves.ReportsInList.{Each, each-none, each-one, each-both, says-both, talk-both}
+
+-- ---- what the link of a session keeps
+-- its phase has what the talk says
+pub record Fits (t : Talk) (p : Phase) : Type 0 where
+  pub connected : isConnected (p .state) ≡ true
+  pub good : isLinkPair (t .pair) ≡ true
+  pub pair : p .start .pair ≡ t .pair
+  pub windows : p .windows ≡ inForce t
+  pub reply : p .reply ≡ t .reply
+  pub kept : Kept (p .request) (p .asked) (pendingIn (t .pair) (t .frames))
+
+-- a message held, from its first byte b on: the bytes after that went on with it
+pub record Holds (es : Log) (t : Talk) (b : Event) (p : Phase) (named : ℕ) : Type 0 where
+  pub head : ℕ
+  pub rest : List ℕ
+  pub bytes : drop named (heardIn es) ≡ head ∷ rest
+  pub right : headReason (p .start .pair .kb1) head ≡ noReason
+  pub gone : GoneOn (b .side) (opening-message (b .side) head) rest (p .message)
+  pub whose : p .message .side ≡ b .side
+  pub spoken : Speaking t b es (head ∷ rest)
+
+-- the reason that a phase gives for what is open, however its bytes go on: that of the damage, or the one that a held message gets from them
+abbrev pub reasonWith : Phase → List Event → ℕ
+reasonWith p bs = if isHeld (p .state) then talkBehind (p .message) bs else p .message .why
+
+-- A message held or damage: its first byte, and whether that was early or stray; no report was made since, so that the session is the present one.
+-- While it is the only byte, a message is held if there is no reason against it. Damage has a reason; where the first byte was neither
+-- early nor stray, it is the one that the bytes give.
+pub record Opened (es : Log) (t : Talk) (p : Phase) (named : ℕ) : Type 0 where
+  pub before : Log
+  pub byte : Event
+  pub begins : Begins (before ▷ byte) es
+  pub first : FirstOf t before byte
+  pub index : length (heardIn before) ≡ named
+  pub hasty : (lossReason p noReason ≡ early) ↔ Early t (t .reply) (gapBefore (takenOf before) byte) byte
+  pub astray : (lossReason p noReason ≡ stray) ↔ Stray t (t .reply) (gapBefore (takenOf before) byte) byte
+  pub fresh : length (heardIn es) ≡ named + 1
+      → firstReason (t .pair) (t .reply) (inForce t) (byte .side) (byte .value) (gapBefore (takenOf before) byte) ≡ noReason
+      → isHeld (p .state) ≡ true
+  pub reasoned : Not (Early t (t .reply) (gapBefore (takenOf before) byte) byte) → Not (Stray t (t .reply) (gapBefore (takenOf before) byte) byte)
+      → (bs : List Event) → talkReason (t .pair) (drop named (bytesOf (takenOf es)) ++ bs) ≡ reasonWith p bs
+  pub against : isHeld (p .state) ≡ false → Not (p .message .why ≡ noReason)
+  pub held : isHeld (p .state) ≡ true → Holds es t byte p named
+
+-- a phase with bytes named and heard, after es in the session t
+pub record At (es : Log) (t : Talk) (p : Phase) (named heard : ℕ) : Type 0 where
+  pub fits : Fits t p
+  pub bytes : heard ≡ length (heardIn es)
+  pub calm : isQuiet (p .state) ≡ true → named ≡ heard
+  pub opened : isOpen (p .state) ≡ true → Opened es t p named
+
+-- an event that is no byte heard, and leaves a message open, changes nothing of this
+abbrev pub SpeaksOn : Log → Event → Talk → Type 0
+SpeaksOn es e t = (b : Event) (bytes : List ℕ) → Speaking t b es bytes → Speaking t b (es ▷ e) bytes
+
+module _ (es : Log) (e : Event) (t : Talk) (p : Phase) (named : ℕ) (same : heardIn (es ▷ e) ≡ heardIn es) where
+  holds-more : (b : Event) → SpeaksOn es e t → Holds es t b p named → Holds (es ▷ e) t b p named
+  holds-more b f h = record {
+    head = h .head;
+    rest = h .rest;
+    bytes = ap (drop named) same ∙ h .bytes;
+    right = h .right;
+    gone = h .gone;
+    whose = h .whose;
+    spoken = f b (h .head ∷ h .rest) (h .spoken);
+  }
+
+  opened-more : SpeaksOn es e t → Opened es t p named → Opened (es ▷ e) t p named
+  opened-more f o = record {
+    before = o .before;
+    byte = o .byte;
+    begins = more (o .begins);
+    first = o .first;
+    index = o .index;
+    hasty = o .hasty;
+    astray = o .astray;
+    fresh = λ n. o .fresh (sym (ap length same) ∙ n);
+    reasoned = λ x y bs. ap (λ (l : List Event). talkReason (t .pair) (drop named l ++ bs)) (same-events es e same) ∙ o .reasoned x y bs;
+    against = o .against;
+    held = λ h. holds-more (o .byte) f (o .held h);
+  }
+
+  pub at-more : (heard : ℕ) → (isOpen (p .state) ≡ true → SpeaksOn es e t) → At es t p named heard → At (es ▷ e) t p named heard
+  at-more heard f a = record {
+    fits = a .fits;
+    bytes = a .bytes ∙ sym (ap length same);
+    calm = a .calm;
+    opened = λ o. opened-more (f o) (a .opened o);
+  }
+
+-- ---- what is shown of a report of an event
+-- among these reports of an event from this side is a frame from the unit that answers a stop
+pub record Answers (pair : Pair) (fs : Frames) (side : Side) (heard : List ℕ) (rs : List Report) : Type 0 where
+  pub report : Report
+  pub made : Among report rs
+  pub number : report .number ≡ frameReport
+  pub unit : side ≡ Unit
+  pub stop : stops (pendingIn pair fs) (dataOf (pair .kb1) (pair .kb2) (namedBy heard report)) ≡ true
+
+-- a report of the event e after es, in a session with these key bytes and these frames; `all` are the event's reports
+pub record Shows (es : Log) (e : Event) (pair : Pair) (fs : Frames) (all : List Report) (x : Report) : Type 0 where
+  pub reads : x .number ≡ frameReport → isFrame pair (namedBy (heardIn (es ▷ e)) x) ≡ true
+  pub spoken : x .number ≡ frameReport → Finishes es e (namedBy (heardIn (es ▷ e)) x)
+  pub turns : (x .number ≡ frameReport) ⊎ (x .number ≡ damageReport) → Turned (es ▷ e) x
+  pub answers : x .number ≡ downReport → x .reason ≡ stopped → Answers pair fs (e .side) (heardIn (es ▷ e)) all
+  pub stops : x .number ≡ frameReport → e .side ≡ Unit → stops (pendingIn pair fs) (dataOf (pair .kb1) (pair .kb2) (namedBy (heardIn (es ▷ e)) x)) ≡ true
+      → Tells downReport stopped all
+
+-- a talk with this reply
+abbrev pub withReply : Talk → Reply → Talk
+withReply t reply = record { pair = t .pair; frames = t .frames; reply = reply }
+
+-- ---- the reports of an event e after es, move by move
+module _ (es : Log) (e : Event) (all : List Report) where
+  abbrev pub Told : Talk → Report → Type 0
+  Told t x = Shows es e (t .pair) (t .frames) all x
+
+  abbrev pub talked : Talk → List Report → Talk
+  talked t rs = talkAfter t (takenOf (es ▷ e)) rs
+
+  -- of most reports nothing is to be shown
+  pub plain : (t : Talk) (x : Report) → (x .number ≡ frameReport → ⊥) → (x .number ≡ damageReport → ⊥)
+      → (x .number ≡ downReport → x .reason ≡ stopped → ⊥) → Told t x
+  plain t x f d s = record {
+    reads = λ n. absurd (f n);
+    spoken = λ n. absurd (f n);
+    turns = λ n. absurd (⊎-elim f d n);
+    answers = λ n r. absurd (s n r);
+    stops = λ n u r. absurd (f n);
+  }
+
+  -- after some of its reports the session goes on, with another reply that may come; or it is over
+  pub data Passes (t : Talk) (rs : List Report) (r : Run) : Type 0 where
+    up : (reply : Reply) → isAmong downReport rs ≡ false → Each (Told t) rs → talked t rs ≡ withReply t reply
+        → At es (withReply t reply) (r .phase) (r .named) (r .heard) → Passes t rs r
+    gone : isAmong downReport rs ≡ true → Each (Told t) rs → r .phase ≡ down → Passes t rs r
+
+  -- a move that makes no report
+  stays : (t : Talk) (r : Run) → At es t (r .phase) (r .named) (r .heard) → Passes t (tells r (still (r .phase))) (moved r (still (r .phase)))
+  unfolding tells moved isAmong talkAfter
+  stays t r a = up (t .reply) refl (each-none (Told t)) refl a
+
+  -- nothing is open, and no reply is expected
+  settled-at : (t : Talk) (p : Phase) (named named′ heard : ℕ) → At es t p named heard → named′ ≡ heard
+      → At es (withReply t Never) (settled p) named′ heard
+  unfolding settled talking isConnected isOpen
+  settled-at t p named named′ heard a q =
+      let f = a .fits in
+      record {
+        fits = record { connected = refl; good = f .good; pair = f .pair; windows = f .windows; reply = refl; kept = f .kept };
+        bytes = a .bytes;
+        calm = λ _. q;
+        opened = λ o. absurd (false≢true o);
+      }
+
+  -- ---- a report 2
+  pub same-loss : (p : Phase) (why k : ℕ) → (why ≡ k → ⊥) → (noReason ≡ k → ⊥) → (lossReason p why ≡ k) ↔ (lossReason p noReason ≡ k)
+  unfolding lossReason
+  same-loss p why k h z = by-held (isHeld (p .state))
+    where
+      by-held : (b : Bool) → ((if b then why else p .message .why) ≡ k) ↔ ((if b then noReason else p .message .why) ≡ k)
+      by-held true = (λ q. absurd (h q), λ q. absurd (z q))
+      by-held false = (λ q. q, λ q. q)
+
+  -- a report that names what is open from its first byte on
+  pub turned : (t : Talk) (p : Phase) (named : ℕ) (x : Report) → Opened es t p named → x .first ≡ named
+      → (((x .number ≡ damageReport) × (x .reason ≡ early)) ↔ (lossReason p noReason ≡ early))
+      → (((x .number ≡ damageReport) × (x .reason ≡ stray)) ↔ (lossReason p noReason ≡ stray)) → Turned (es ▷ e) x
+  turned t p named x o n f g = record {
+    before = o .before;
+    byte = o .byte;
+    talk = t;
+    begins = more (o .begins);
+    first = o .first;
+    index = o .index ∙ sym n;
+    early = (λ q. o .hasty .0 (f .0 q), λ q. f .1 (o .hasty .1 q));
+    stray = (λ q. o .astray .0 (g .0 q), λ q. g .1 (o .astray .1 q));
+  }
+
+  damage-told : (t : Talk) (r : Run) (why : ℕ) → (why ≡ early → ⊥) → (why ≡ stray → ⊥) → Opened es t (r .phase) (r .named)
+      → Told t (reportOf r damageReport (lossReason (r .phase) why))
+  unfolding reportOf namesBytes
+  damage-told t r why h k o =
+      let f = same-loss (r .phase) why early h (λ z. omega arith) in
+      let g = same-loss (r .phase) why stray k (λ z. omega arith) in
+      record {
+        reads = λ n. absurd (omega arith);
+        spoken = λ n. absurd (omega arith);
+        turns = λ _. turned t (r .phase) (r .named) (reportOf r damageReport (lossReason (r .phase) why)) o refl
+            (λ q. f .0 (q .1), λ q. (refl, f .1 q)) (λ q. g .0 (q .1), λ q. (refl, g .1 q));
+        answers = λ n. absurd (omega arith);
+        stops = λ n. absurd (omega arith);
+      }
+
+  pub damage-ends : (t : Talk) (r : Run) (why : ℕ) → (why ≡ early → ⊥) → (why ≡ stray → ⊥) → At es t (r .phase) (r .named) (r .heard)
+      → isOpen (r .phase .state) ≡ true
+      → Passes t (tells r (makes damageReport (lossReason (r .phase) why) (settled (r .phase))))
+      (moved r (makes damageReport (lossReason (r .phase) why) (settled (r .phase))))
+  unfolding tells moved told reportOf namesBytes isAmong talkAfter afterReport
+  damage-ends t r why h k a o =
+      up Never refl (each-one (Told t) _ (damage-told t r why h k (a .opened o))) refl
+      (settled-at t (r .phase) (r .named) (r .heard) (r .heard) a refl)
+
+  -- ---- reports 6 and 7
+  no-reply : (t : Talk) (r : Run) → At es t (r .phase) (r .named) (r .heard) → isQuiet (r .phase .state) ≡ true
+      → Passes t (tells r (makes noReplyReport noReason (settled (r .phase)))) (moved r (makes noReplyReport noReason (settled (r .phase))))
+  unfolding tells moved told reportOf namesBytes isAmong talkAfter afterReport
+  no-reply t r a q =
+      up Never refl (each-one (Told t) _ (plain t _ (λ n. omega arith) (λ n. omega arith) (λ n. absurd (omega arith)))) refl
+      (settled-at t (r .phase) (r .named) (r .named) (r .heard) a (a .calm q))
+
+  goes-down : (t : Talk) (r : Run) (reason : ℕ) → (reason ≡ stopped → ⊥)
+      → Passes t (tells r (makes downReport reason down)) (moved r (makes downReport reason down))
+  unfolding tells moved told reportOf isAmong
+  goes-down t r reason h = gone refl (each-one (Told t) _ (plain t _ (λ n. omega arith) (λ n. omega arith) (λ n. h))) refl
+
+  -- ---- THE RULES up to where all that is open is closed, in a session
+  module _ (mark : Micros) where
+    abbrev pub Moves : Moment → Type 0
+    Moves k = (t : Talk) (r : Run) (m : Move) → Rule mark e (r .phase) k m → At es t (r .phase) (r .named) (r .heard) → Passes t (tells r m) (moved r m)
+
+    silence-rule : Moves at-silence
+    silence-rule t r m (rests u) a = stays t r a
+    silence-rule t r m (breaks-off o s) a = damage-ends t r brokenOff (λ z. omega arith) (λ z. omega arith) a o
+
+    p2-rule : Moves at-p2
+    p2-rule t r m (rests u) a = stays t r a
+    p2-rule t r m (waited q f s) a = no-reply t r a (quiet-is q)
+
+    p3-rule : Moves at-p3
+    p3-rule t r m (rests u) a = stays t r a
+    p3-rule t r m (idled q f s) a = goes-down t r idleOver (λ z. omega arith)
+
+    window-rule : Moves at-window
+    window-rule t r m (rests u) a = stays t r a
+    window-rule t r m (expires s o) a = absurd (never-starting (r .phase .state) (a .fits .connected) (starting-is s))
+
+    pub closing-rule : Moves at-closing
+    closing-rule t r m (rests u) a = stays t r a
+    closing-rule t r m (cuts-off o) a = damage-ends t r closed (λ z. omega arith) (λ z. omega arith) a o
+    closing-rule t r m (aborts s) a = absurd (never-starting (r .phase .state) (a .fits .connected) (starting-is s))
+
+    not-stopped : {reason : ℕ} → Closes e reason → reason ≡ stopped → ⊥
+    not-stopped (by-drop k) z = omega arith
+    not-stopped (by-address k) z = omega arith
+    not-stopped (by-wake-up k) z = omega arith
+
+    pub leaving-rule : Moves at-leaving
+    leaving-rule t r m (rests u) a = stays t r a
+    leaving-rule t r m (leaves c q) a = goes-down t r _ (not-stopped c)
+
+  -- ---- one move after another
+  or-first : (a b : Bool) → a ≡ true → (a || b) ≡ true
+  or-first true b h = refl
+  or-first false b h = absurd (false≢true h)
+
+  or-none : (a b : Bool) → a ≡ false → b ≡ false → (a || b) ≡ false
+  or-none a b h k = rw (h, k) refl
+
+  or-second : (a b : Bool) → b ≡ true → (a || b) ≡ true
+  or-second true b h = refl
+  or-second false b h = h
+
+  pub says-first : (rs ss : List Report) → isAmong downReport rs ≡ true → isAmong downReport (rs ++ ss) ≡ true
+  says-first rs ss h = says-both downReport rs ss ∙ or-first (isAmong downReport rs) (isAmong downReport ss) h
+
+  pub says-second : (rs ss : List Report) → isAmong downReport ss ≡ true → isAmong downReport (rs ++ ss) ≡ true
+  says-second rs ss h = says-both downReport rs ss ∙ or-second (isAmong downReport rs) (isAmong downReport ss) h
+
+  pub says-none : (rs ss : List Report) → isAmong downReport rs ≡ false → isAmong downReport ss ≡ false → isAmong downReport (rs ++ ss) ≡ false
+  says-none rs ss h k = says-both downReport rs ss ∙ or-none (isAmong downReport rs) (isAmong downReport ss) h k
+
+  pub talked-both : (t : Talk) (reply : Reply) (rs ss : List Report) → talked t rs ≡ withReply t reply
+      → talked t (rs ++ ss) ≡ talked (withReply t reply) ss
+  talked-both t reply rs ss q = talk-both t (takenOf (es ▷ e)) rs ss ∙ ap (λ (u : Talk). talked u ss) q
+
+  gone-on : (t : Talk) (rs : List Report) (r : Run) → Passes t rs r → Passes t (rs ++ tells r (still (r .phase))) (moved r (still (r .phase)))
+  unfolding tells moved
+  gone-on t rs r p = subst (λ (xs : List Report). Passes t xs r) (sym (append-nil rs)) p
+
+  -- a link that is down rests
+  pub next : (mark : Micros) (k : Moment) → Moves mark k → Unmoved mark e down k → (t : Talk) (rs : List Report) (r : Run) (m : Move)
+      → Rule mark e (r .phase) k m → Passes t rs r → Passes t (rs ++ tells r m) (moved r m)
+  next mark k f d t rs r m u (up reply n g q a) = on (f (withReply t reply) r m u a)
+    where
+      on : Passes (withReply t reply) (tells r m) (moved r m) → Passes t (rs ++ tells r m) (moved r m)
+      on (up again o h p b) =
+          up again (says-none rs (tells r m) n o) (each-both (Told t) rs (tells r m) g h) (talked-both t reply rs (tells r m) q ∙ p) b
+      on (gone o h p) = gone (says-second rs (tells r m) o) (each-both (Told t) rs (tells r m) g h) p
+  next mark k f d t rs r m u (gone n g q) =
+      subst (λ (x : Move). Passes t (rs ++ tells r x) (moved r x))
+      (one-move mark e (r .phase) (rests (subst (λ (p : Phase). Unmoved mark e p k) (sym q) d)) u) (gone-on t rs r (gone n g q))
+
+  -- TIME PASSES IN A SESSION
+  pub passed-step : (t : Talk) (r : Run) (mark : Micros) → At es t (r .phase) (r .named) (r .heard)
+      → Passes t (passedTells r mark (e .start)) (passed r mark (e .start))
+  unfolding passedTells passed down isQuiet isStarting
+  passed-step t r mark a =
+      let gap = gapOf mark (e .start) in
+      let r1 = moved r (afterSilence (r .phase) gap) in
+      let r2 = moved r1 (afterP2 (r1 .phase) gap) in
+      let r3 = moved r2 (afterP3 (r2 .phase) gap) in
+      let s1 = silence-rule mark t r _ (by-silence mark e (r .phase)) a in
+      let s2 = next mark at-p2 (p2-rule mark) refl t _ r1 _ (by-p2 mark e (r1 .phase)) s1 in
+      let s3 = next mark at-p3 (p3-rule mark) refl t _ r2 _ (by-p3 mark e (r2 .phase)) s2 in
+      next mark at-window (window-rule mark) refl t _ r3 _ (by-window mark e (r3 .phase)) s3

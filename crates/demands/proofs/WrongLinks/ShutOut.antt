@@ -1,0 +1,121 @@
+-- The wrong programs of document 01, and the accident, are shut out: each breaks a demand, by what antt computes of it (Computed.antt).
+-- Assumes nothing.
+use Prim.Native.Nat.{ℕ, _<_}
+use mathlib.Core.Bool.{Bool, true, false, false≢true}
+use mathlib.Core.List.{List, [], _∷_}
+use mathlib.Core.Logic.{_⊎_, ⊎-elim}
+use mathlib.Core.Path.{_≡_, refl, sym, ap, _∙_}
+use native.Mathlib.Omega.{arith}
+use borrow.Author.Tests.{eq-eqb}
+use lib.Dec.{eqb}
+use lib.ListN.{getD}
+use Rattle.base.specs.Numbers.{taken}
+use Rattle.base.specs.Reports.{connectedReport, outsideReport}
+use Rattle.base.proofs.Tests.{by-test}
+use Rattle.keys.specs.declared.Form.the-variants.{Plain}
+use Rattle.frame.specs.ReadsBack.{ReadsBack}
+use Rattle.events.specs.Events.{isByte, isOther, isNobody, isUnknown, isTooLate, isOutOfOrder, refusal}
+use Rattle.events.specs.declared.Event.{Event}
+use Rattle.reports.specs.Reporting.{appended, listed}
+use Rattle.reports.specs.Counting.{zeroCounts}
+use Rattle.reports.specs.declared.Reports.{Reports}
+use Rattle.reports.specs.declared.Counts.{Counts}
+use Rattle.link.specs.Stepping.{numberOf, refusedBy, answerOf, stepOf}
+use Rattle.demands.specs.Logs.{none, _▷_, countOf, clockOf, numberAfter, takenOf}
+use Rattle.link.specs.declared.Link.{Link}
+use Rattle.demands.specs.Refusals.{Above}
+use Rattle.demands.specs.Histories.{after, reportsTo, isAmong}
+use Rattle.demands.proofs.Connecting.Example.{fastEvents, fastLast, fast-connects, fast-number}
+use Rattle.demands.specs.Wrong.{refusing, outsideStep, outside, unchanged, idling, inventing, behind, twice, forgetting, possessive, disordered, repeating, moving, shifting}
+use Rattle.demands.specs.DemandOne.{DemandOne}
+use Rattle.demands.specs.DemandTwo.{DemandTwo}
+use Rattle.demands.specs.DemandThree.{DemandThree}
+use Rattle.demands.proofs.WrongLinks.Computed.{tick, twoBytes, unknown, oneByte, oneHeard, retiming, cutOff, tooSoon, asking, tooLate, addressed, unheard, lowWrong, is-fair, in-order, named-by, computed}
+
+-- ---- DEMAND 3 SHUTS OUT ..
+-- .. a step that leaves the link unchanged: two bytes are both reported with index 0
+pub unchanged-shut : DemandThree unchanged → ⊥
+unchanged-shut d = false≢true (sym (computed .of-unchanged) ∙ is-fair unchanged twoBytes (d .accounted twoBytes))
+
+-- .. a link that finishes on its first event and idles later: of two bytes heard it has counted one
+pub idling-shut : DemandThree idling → ⊥
+idling-shut d = false≢true (sym (computed .of-idling) ∙ is-fair idling twoBytes (d .accounted twoBytes))
+
+-- .. a link that shows invented counts: after a tick it counts seven bytes
+pub inventing-shut : DemandThree inventing → ⊥
+inventing-shut d = false≢true (sym (computed .of-inventing) ∙ is-fair inventing (none ▷ tick) (d .accounted (none ▷ tick)))
+
+-- .. a link whose frame count is one after after a timing change
+pub behind-shut : DemandThree behind → ⊥
+behind-shut d = false≢true (sym (computed .of-behind) ∙ is-fair behind retiming (d .accounted retiming))
+
+-- .. and a link that lists the reply twice that changes its timing
+pub twice-shut : DemandThree twice → ⊥
+twice-shut d = false≢true (sym (computed .of-twice) ∙ is-fair twice retiming (d .accounted retiming))
+
+-- ---- DEMAND 1 SHUTS OUT ..
+-- .. a link that refuses everything: a fresh link takes a tick
+under : {A : Type 0} → (4_000_000_000 < 0) ⊎ A → (A → ⊥) → ⊥
+under u f = ⊎-elim (λ h. omega arith) f u
+
+no-count-above : Above zeroCounts → ⊥
+unfolding zeroCounts
+no-count-above u = under u (λ v. under v (λ w. under w (λ x. under x (λ y. under y (λ z. under z (λ h. omega arith))))))
+
+pub refusing-shut : DemandOne refusing → ⊥
+unfolding after takenOf clockOf countOf zeroCounts refusedBy isOther isByte
+refusing-shut d =
+    let n = d .numbered none zeroCounts tick in
+    false≢true (ap (λ (k : ℕ). eqb k 0) (n .taken .1 (
+      (λ u. ⊎-elim (λ k. false≢true (ap isOther k)) (λ k. false≢true (ap isByte (k .0))) u),
+      (λ u. ⊎-elim (λ k. omega arith) (λ k. omega arith) u),
+      (λ u. ⊎-elim (λ k. omega arith) (λ k. omega arith) u),
+      (λ u. ⊎-elim (λ k. omega arith) no-count-above u),
+    )))
+
+-- .. and a link that a refused event makes fresh again: its clock is not what it was
+pub forgetting-shut : DemandOne forgetting → ⊥
+forgetting-shut d =
+    let before = d .refused-as-before (after forgetting twoBytes .link) zeroCounts unknown (λ q. false≢true (sym (computed .refuses-unknown) ∙ eq-eqb _ 0 q)) in
+    false≢true (sym (computed .of-forgetting) ∙ eq-eqb _ _ (ap (λ (l : Link). l .clock .0) (before .link)))
+
+-- ---- DEMAND 2 SHUTS OUT a link that reports nothing while counts are lent that are not its own
+pub possessive-shut : DemandTwo possessive → ⊥
+possessive-shut d =
+    let same = d .lent-alike none oneHeard oneByte (computed .takes-lent) .0 in
+    false≢true (sym (computed .of-possessive) ∙ ap (isAmong outsideReport) same ∙ computed .own-reported)
+
+-- ---- DEMAND 2 SHUTS OUT a link that reports each byte as outside: it never says that it is connected
+no-three : (b : Bool) (l : Link) (c : Counts) (e : Event) → eqb (numberOf l c e) taken ≡ b → isAmong connectedReport (listed (outsideStep l c e .answer .reports)) ≡ false
+unfolding isAmong listed appended stepOf answerOf refusedBy
+no-three true l c e q = rw q (by-test (λ (rs : Reports). isAmong connectedReport (listed rs) ≡ false) (isByte (e .kind)) (λ t. refl) (λ t. refl))
+no-three false l c e q = rw q
+
+pub outside-shut : DemandTwo outside → ⊥
+unfolding takenOf numberAfter clockOf countOf refusal isUnknown isTooLate isOutOfOrder isOther isByte isNobody
+outside-shut d =
+    let h = after outside fastEvents in
+    false≢true (sym (no-three (eqb (numberOf (h .link) (h .counts) fastLast) taken) (h .link) (h .counts) fastLast refl) ∙ d .connects-exactly fastEvents fastLast .1 (fast-number, fast-connects))
+
+-- ---- DEMAND 2 SHUTS OUT, by the order of an event's reports and by what a report 4 names, ..
+-- .. one that gives an event's reports in another order: 8, 7, 2 when a wake-up comes too soon and cuts a message off
+pub disordered-shut : DemandTwo disordered → ⊥
+disordered-shut d = false≢true (sym (computed .of-disordered) ∙ in-order 0 (reportsTo disordered cutOff tooSoon) (d .in-order cutOff tooSoon))
+
+-- .. one that repeats reports without bytes: 6, 6 when a request is not answered
+pub repeating-shut : DemandTwo repeating → ⊥
+repeating-shut d = false≢true (sym (computed .of-repeating) ∙ in-order 0 (reportsTo repeating asking tooLate) (d .in-order asking tooLate))
+
+-- .. one that moves the byte of a report 4 to a report 5 after it: 4, 5, 5 when KB1 comes too late
+pub moving-shut : DemandTwo moving → ⊥
+moving-shut d = false≢true (sym (computed .of-moving) ∙ in-order 0 (reportsTo moving addressed unheard) (d .in-order addressed unheard))
+
+-- .. one that moves it to another report 4 of the same event: 4 with reason 1 and 4 with reason 3, when a wake-up that is low too long comes instead
+pub shifting-shut : DemandTwo shifting → ⊥
+shifting-shut d = false≢true (sym (computed .of-shifting) ∙ named-by shifting addressed lowWrong (d .failed-names addressed lowWrong))
+
+-- ---- AND a builder with one constant frame: it can't read back as two different bytes
+pub constant-shut : (frame : List ℕ) → ((byte : ℕ) → ReadsBack 0xEF 0x8F Plain 0 0 (byte ∷ []) frame) → ⊥
+constant-shut frame r =
+    let n = ap (λ (l : List ℕ). eqb (getD l 0 0) 0x3F) (sym (r 0x3E .contents) ∙ r 0x3F .contents) in
+    false≢true n
