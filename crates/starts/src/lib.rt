@@ -240,7 +240,10 @@ fn after_format(v: u8) -> Stage
 fn pass_on(s: Start, v: u8, stage: Stage) -> Start
     ensures { λ r. ⌜ r ≡ passedOn s v stage ⌝ }
 {
-    let pair = s.pair;
+    let pair = Pair {
+        kb1: s.pair.kb1,
+        kb2: s.pair.kb2,
+    };
     Start {
         stage: stage,
         address: s.address,
@@ -283,7 +286,10 @@ fn keep_two(s: Start, v: u8, stage: Stage) -> Start
 fn end_request(s: Start, stage: Stage) -> Start
     ensures { λ r. ⌜ r ≡ requested s stage ⌝ }
 {
-    let pair = s.pair;
+    let pair = Pair {
+        kb1: s.pair.kb1,
+        kb2: s.pair.kb2,
+    };
     Start {
         stage: stage,
         address: s.address,

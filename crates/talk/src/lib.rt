@@ -89,10 +89,11 @@ fn tester_turn(reply: Reply, w: Windows, gap: Micros) -> u8
 fn is_stray(reply: Reply, w: Windows, gap: Micros) -> bool
     ensures { λ r. ⌜ r ≡ isStray reply w gap ⌝ }
 {
+    let over = timing::passed(w.p2max, gap);
     match reply {
         Reply::Never => true,
-        Reply::First => timing::passed(w.p2max, gap),
-        Reply::Further => timing::passed(w.p2max, gap),
+        Reply::First => over,
+        Reply::Further => over,
     }
 }
 
@@ -147,10 +148,10 @@ fn place_announced(kb1: u8, f: u8) -> bool
 fn head_reason(kb1: u8, f: u8) -> u8
     ensures { λ r. ⌜ r ≡ headReason kb1 f ⌝ }
 {
+    let form = frame::format_form(f);
     if f / 64 == 1 {
         return base::reason::MODE_ONE;
     }
-    let form = frame::format_form(f);
     let taken = keys::takes_form(kb1, form);
     if !taken {
         return base::reason::WRONG_FORM;

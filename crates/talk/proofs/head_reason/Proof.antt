@@ -11,10 +11,10 @@ unfolding headReason
 head-reason-spec =
     tie.close
     (tie.spec
+    (λ c κs. search needs)
     (λ c. rw (eq-eqb _ _ (c .if1 .taken)))
     (λ c κs. search needs)
+    (λ c. rw (← (c .before .before .before .format-form .ensures), ne-eqb _ _ (c .before .before .if1 .left), ← (c .before .takes-form .ensures), c .if2 .taken))
     (λ c κs. search needs)
-    (λ c. rw (ne-eqb _ _ (c .before .before .before .if1 .left), ← (c .before .before .format-form .ensures), ← (c .before .takes-form .ensures), c .if2 .taken))
-    (λ c κs. search needs)
-    (λ c. rw (ne-eqb _ _ (c .before .before .before .before .before .if1 .left), ← (c .before .before .before .before .format-form .ensures), ← (c .before .before .before .takes-form .ensures), c .before .before .if2 .left, ← (c .before .place-announced .ensures), c .if3 .taken))
-    (λ c. rw (ne-eqb _ _ (c .before .before .before .before .before .if1 .left), ← (c .before .before .before .before .format-form .ensures), ← (c .before .before .before .takes-form .ensures), c .before .before .if2 .left, ← (c .before .place-announced .ensures), c .if3 .left)))
+    (λ c. rw (← (c .before .before .before .before .before .format-form .ensures), ne-eqb _ _ (c .before .before .before .before .if1 .left), ← (c .before .before .before .takes-form .ensures), c .before .before .if2 .left, ← (c .before .place-announced .ensures), c .if3 .taken))
+    (λ c. rw (← (c .before .before .before .before .before .format-form .ensures), ne-eqb _ _ (c .before .before .before .before .if1 .left), ← (c .before .before .before .takes-form .ensures), c .before .before .if2 .left, ← (c .before .place-announced .ensures), c .if3 .left)))

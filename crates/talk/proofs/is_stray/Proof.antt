@@ -10,11 +10,10 @@ unfolding isStray
 is-stray-spec =
     tie.close
     (tie.spec
-    (λ c. search needs)
-    (λ c. search needs)
     (λ c κs. search needs)
     (λ c. search needs)
-    (λ c κs. search needs)
+    (λ c. search needs)
+    (λ c. search needs)
     (λ c. rw (c .enum-told .given .1))
-    (λ c. rw (c .passed .ensures, c .before .enum-told2 .given .1))
-    (λ c. rw (c .passed2 .ensures, c .before .enum-told3 .given .1)))
+    (λ c. rw (c .before .before .passed .ensures, c .enum-told2 .given .1))
+    (λ c. rw (c .before .before .passed .ensures, c .enum-told3 .given .1)))
