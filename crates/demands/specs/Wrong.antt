@@ -102,7 +102,7 @@ inventing = machineOf (λ l c e. record {
 abbrev retimed : Link → Stepped → Bool
 retimed l s = isHeld (l .phase .state) && isQuiet (s .answer .link .phase .state) && not (sameWindows (l .phase .windows) (s .answer .link .phase .windows))
 
--- .. the frame count stays one after; ..
+-- .. the frame count stays one behind; ..
 abbrev pub behind : Machine
 behind = machineOf (λ l c e. let s = stepOf l c e in if retimed l s then withFrames s (c .frames) else s)
 

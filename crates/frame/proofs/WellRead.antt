@@ -1,4 +1,6 @@
--- Whatever reads well is the frame of what was read, with its length place. Assumes nothing.
+-- Whatever reads well is the frame of what was read, with its length place.
+-- What is read fixes the head byte by byte, the head fixes how long the slice is, and the last byte is the sum: nothing of the slice is left open.
+-- Assumes nothing.
 use mathlib.Core.Path.{_≡_, refl, sym, ap, _∙_, subst}
 use mathlib.Core.Bool.{Bool, true, false, not, true≢false}
 use mathlib.Core.Logic.{_↔_}

@@ -1,4 +1,6 @@
--- A byte's line read at once is what its bytes give one by one. Assumes nothing.
+-- A byte's line read at once is what its bytes give one by one.
+-- The quick way tests the same letters, digits and spaces at their places; part by part it is what the machine that reads byte by byte comes to.
+-- Assumes nothing.
 use Prim.Native.Nat.{ℕ, zero, suc, _+_, _*_, _-_, _%_, _≤_, _<_, _^_}
 use mathlib.Core.Path.{_≡_, refl, sym, _∙_, ap}
 use mathlib.Core.Bool.{Bool, true, false, _&&_, false≢true}

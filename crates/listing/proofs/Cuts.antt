@@ -1,4 +1,6 @@
--- HOWEVER THE INPUT IS CUT, its listing is the same. Assumes nothing.
+-- HOWEVER THE INPUT IS CUT, its listing is the same.
+-- The listing is a fold over the bytes, and a call stops it between two bytes only: calls one after another are one fold.
+-- Assumes nothing.
 use Prim.Native.Nat.{ℕ, suc, _+_, _-_, _≤_, _<_}
 use mathlib.Core.Path.{_≡_, refl, sym, _∙_, ap}
 use mathlib.Core.Bool.{Bool, true, false}

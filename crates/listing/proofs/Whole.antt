@@ -1,4 +1,6 @@
--- A WHOLE INPUT, that comes in parts, each of them offered until all of it is read. Assumes nothing.
+-- A WHOLE INPUT, that comes in parts, each of them offered until all of it is read.
+-- A call reads something while something is offered (`reads-on`), so a part that is offered again and again comes to its end.
+-- Assumes nothing.
 use Prim.Native.Nat.{ℕ, zero, suc, _≤_}
 use mathlib.Core.Path.{_≡_, refl, sym, _∙_, ap}
 use mathlib.Core.List.{List, [], _∷_, _++_, append-assoc}

@@ -1,4 +1,6 @@
--- What one test of a state says of another. Assumes nothing.
+-- What one test of a state says of another.
+-- There are five states: each law is computed at each of them.
+-- Assumes nothing.
 use mathlib.Core.Bool.{true, false, false≢true}
 use mathlib.Core.Path.{_≡_, refl, sym, ap, _∙_}
 use Rattle.phases.specs.Phases.{isStarting, isQuiet, isHeld, isOpen, isConnected}

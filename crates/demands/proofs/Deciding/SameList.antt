@@ -1,4 +1,6 @@
--- Two lists of reports in order and in turn, of which each report of one has its like in the other, are the same list. Assumes nothing.
+-- Two lists of reports in order and in turn, of which each report of one has its like in the other, are the same list.
+-- The first report of either is that of its least rule, so the first of both are alike; and so the rest are, one after another.
+-- Assumes nothing.
 use Prim.Native.Nat.{ℕ, _+_, _≤_, _<_}
 use mathlib.Core.List.{List, [], _∷_}
 use mathlib.Core.Logic.{_⊎_, inl, inr, ⊎-elim}

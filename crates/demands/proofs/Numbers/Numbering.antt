@@ -1,4 +1,6 @@
--- The tests by which the link refuses an event hold exactly when the conditions of its number do. Assumes nothing.
+-- The tests by which the link refuses an event hold exactly when the conditions of its number do.
+-- Each test compares two numbers, and holds exactly if the inequality of its condition does; the number is that of the first test that holds, so that of no smaller one.
+-- Assumes nothing.
 use Prim.Native.Nat.{ℕ, _≤_, _<_}
 use mathlib.Core.Bool.{Bool, true, false, _&&_, _||_, false≢true}
 use mathlib.Core.Logic.{_↔_, _⊎_, inl, inr, ⊎-elim}

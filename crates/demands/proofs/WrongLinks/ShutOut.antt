@@ -45,7 +45,7 @@ idling-shut d = false≢true (sym (computed .of-idling) ∙ is-fair idling twoBy
 pub inventing-shut : DemandThree inventing → ⊥
 inventing-shut d = false≢true (sym (computed .of-inventing) ∙ is-fair inventing (none ▷ tick) (d .accounted (none ▷ tick)))
 
--- .. a link whose frame count is one after after a timing change
+-- .. a link whose frame count is one behind after a timing change
 pub behind-shut : DemandThree behind → ⊥
 behind-shut d = false≢true (sym (computed .of-behind) ∙ is-fair behind retiming (d .accounted retiming))
 
