@@ -10,7 +10,6 @@ use lib.Dec.{eqb}
 use Rattle.base.specs.Choice.{if_then_else_}
 use Rattle.base.specs.Reports.{frameReport, damageReport, connectedReport, failedReport, outsideReport, noReplyReport, downReport, notIdleReport}
 use Rattle.base.proofs.Tests.{by-test}
-use Rattle.units.specs.Units.{micros}
 use Rattle.units.specs.declared.Micros.{Micros}
 use Rattle.events.specs.Events.{isTester}
 use Rattle.events.specs.declared.Event.{Event}
@@ -18,13 +17,12 @@ use Rattle.phases.specs.Phases.{isStarting, isOpen, down, starting, connected, 
 use Rattle.phases.specs.declared.State.{State}
 use Rattle.phases.specs.declared.State.the-variants.{Down, Starting, Quiet, Held, Damage}
 use Rattle.phases.specs.declared.Phase.{Phase}
-use Rattle.moves.specs.Moves.{still, makes, closing}
+use Rattle.moves.specs.Moves.{still, makes}
 use Rattle.moves.specs.declared.Move.{Move}
 use Rattle.moves.proofs.Rules.{Moment, at-silence, at-p2, at-p3, at-window, at-closing, at-leaving, at-start, at-byte, at-stop, at-end, next, Unmoved, Rule}
 use Rattle.moves.proofs.Rules.{rests, breaks-off, waited, idled, expires, cuts-off, aborts, leaves, starts-slow, starts-fast, hurries, low}
-use Rattle.moves.proofs.Rules.{strays, misses, connects, goes-on, opens, errs, breaks, frames, grows, stops, by-closing}
+use Rattle.moves.proofs.Rules.{strays, misses, connects, goes-on, opens, errs, breaks, frames, grows, stops}
 use Rattle.reports.specs.Reporting.{namesBytes}
-use Rattle.link.proofs.Long.{tickAt}
 
 -- with n bytes named of h heard
 abbrev pub Holds : State → ℕ → ℕ → Type 0
@@ -146,17 +144,3 @@ module _ (n0 h0 : ℕ) where
         reports refl (frame (let x = In Held h0 b (g .0) in omega (arith, x, g .1))) (subst (λ (x : State). Holds x h h) (sym (framed-quiet p)) refl)
     rule-goes k m (grows b r s) g = let x : n < h = (let y = In Held h0 b (g .0) in omega (arith, y, g .1)) in stays x
     rule-goes k m (stops q r) g = reports refl (left (In Quiet h q g)) (In Quiet h q g)
-
--- ---- once A, W or D has closed what was open, nothing is open, and no initialization goes on
-pub record Idle (st : State) : Type 0 where
-  pub shut : isOpen st ≡ false
-  pub apart : isStarting st ≡ false
-
-rule-idle : (mark : Micros) (e : Event) (p : Phase) (m : Move) → Rule mark e p at-closing m → Idle (m .phase .state)
-unfolding settled talking down isOpen isStarting
-rule-idle mark e p m (rests u) = record { shut = u .0; apart = u .1 }
-rule-idle mark e p m (cuts-off o) = record { shut = refl; apart = refl }
-rule-idle mark e p m (aborts s) = record { shut = refl; apart = refl }
-
-pub closing-idle : (p : Phase) → Idle (closing p .phase .state)
-closing-idle p = rule-idle (micros 0) (tickAt (micros 0)) p (closing p) (by-closing _ _ p)

@@ -31,7 +31,6 @@ use Rattle.link.specs.Handling.{passed, shut, hearing, byteHeard, actedBy, acte
 use Rattle.link.specs.declared.Link.{Link}
 use Rattle.link.specs.Telling.{tells, handledTells}
 use Rattle.link.proofs.Walk.{time-walk, shut-walk, event-walk}
-pub use Rattle.link.proofs.Walk.{moved-phase}
 use Rattle.demands.proofs.Histories.Holding.{Holds, Names, frame, damage, success, failure, outside, no-reply, left, not-idle}
 use Rattle.demands.proofs.Histories.Holding.{Same, HoldsAt, Goes, stays, reports, goes-names, rule-goes}
 
