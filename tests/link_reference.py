@@ -1,8 +1,9 @@
 #!/usr/bin/env python3
 """Works out what the link must report, from the rules and not from this repository's definitions, over made-up event lists.
 
-The rules are document 01's, "Events and what the link does". They are written here a second time, in other terms: an initialization is a script that says
-what comes next, a message is the list of its bytes, and a frame is judged by tests/reference.py once all of it is there.
+The rules are document 01's, "Events and what the link does", with request One of document 02. They are written here a second time, in other terms: an
+initialization is a script that says what comes next, a message is the list of its bytes, a frame is judged by tests/reference.py once all of it is there, and
+the idle time that a start needs is looked up by what came last.
 Use: tests/link_reference.py events > crates/replay/stdin
      tests/link_reference.py reports > crates/replay/stdout
 """
@@ -54,6 +55,8 @@ class Link:
         self.clock = self.mark = self.taken = self.heard = 0
         self.held = []  # bytes that no report has named
         self.counts = [0] * 7
+        self.ending = "fresh", None  # or the latest report 4 or 7 or drop, and the windows in force then
+        self.judged = None  # by what the latest start was judged, and the microseconds that it had to spare
         self.go_down()
 
     def go_down(self):
@@ -78,6 +81,15 @@ class Link:
             self.counts[column] += n
         if number in (1, 2):
             self.counts[4 + number] += 1
+        if number in (4, 7):
+            self.ending = (number, reason), self.windows
+
+    def idle(self):
+        """How long the line must have been quiet, from the mark, for an address or a wake-up."""
+        what, windows = self.ending
+        if what == (7, 1):
+            return windows[2]
+        return 0 if what == (7, 2) else 300 * MS
 
     # -- an event: (kind, side, value, start, end)
 
@@ -94,8 +106,12 @@ class Link:
         self.pass_time(start)
         if kind in "AWD":
             self.close(3 if kind == "D" else 4)
+        if kind == "D":
+            self.ending = "drop", None
         if kind in "AW":
-            if start - self.mark < 300 * MS:
+            spare = start - self.mark - self.idle()
+            self.judged = self.ending[0], spare
+            if spare < 0:
                 self.tell(8)
                 self.go_down()
             elif kind == "A":
@@ -305,12 +321,14 @@ class Sessions:
     """Makes up the events of a link, with an eye on a reference link that hears them."""
 
     def __init__(self, seed):
-        self.dice, self.link, self.events, self.answers = Dice(seed), Link(), [], []
+        self.dice, self.link, self.events, self.answers, self.starts = Dice(seed), Link(), [], [], set()
 
     def send(self, kind, side, value, start, end):
         event = (kind, side, value, start, end)
         self.events.append(event)
         self.answers.append((self.link.event(*event), end))
+        if kind in "AW":
+            self.starts.add(self.link.judged)
 
     def tick(self):
         """A tick on or one beside the end of a window that is running."""
@@ -336,14 +354,61 @@ class Sessions:
     def spoiled(self, value, one_in=80):
         return self.dice.pick(value ^ 1, self.dice.below(256), 0) if self.dice.one_in(one_in) else value
 
-    def start(self):
-        d = self.dice
-        at = max(self.link.mark + d.pick(300_000, 300_000, 300_000, 310_000, 299_999), self.link.clock)
+    def after(self, gap):
+        return max(self.link.mark + gap, self.link.clock)
+
+    def hear(self, side, value, gap, since=None):
+        at = self.after(gap) if since is None else max(since + gap, self.link.clock)
+        self.send("B", side, value, at, at + 960)
+
+    def call(self, kind, gap, long=25_000):
+        """An address, 33, or a wake-up; or a tick or a drop."""
+        at = self.after(gap)
+        self.send(kind, "", 0x33 if kind == "A" else 0, at, at + (long if kind in "AW" else 0))
+
+    def connect(self, kb1, kb2=0x8F):
+        self.call("A", 300_000, 1000)
+        for side, value, gap in (("e", 0x55, 60_000), ("e", kb1, 5_000), ("e", kb2, 0), ("t", 255 - kb2, 25_000), ("e", 0xCC, 25_000)):
+            self.hear(side, value, gap)
+
+    def either(self, gap):
+        """An address or a wake-up."""
+        d, at = self.dice, self.after(gap)
         if d.one_in(2):
             self.address = d.pick(0x33, 0x11, d.below(256))
-            self.send("A", "", self.address, at, at + 2_000_000)
+            self.send("A", "", self.address, at, at + d.pick(2_000_000, 2_000_000, 0))
         else:
             self.send("W", "", 0, at, at + d.pick(24_000, 26_000, 25_000, 25_000, 25_000, 25_000, 23_999, 26_001))
+
+    def start(self):
+        """A start on or one beside the idle time, or on or one beside 300 ms; before it now and then an outside byte or a drop."""
+        d, link = self.dice, self.link
+        if d.one_in(8):
+            at = self.after(d.pick(0, 1_000, link.idle()))
+            self.send("B", d.pick("t", "e"), d.below(256), at, at + d.pick(0, 960))
+        if d.one_in(12):
+            at = self.after(d.pick(0, 1_000, link.idle()))
+            self.send("D", "", 0, at, at)
+        idle = link.idle()
+        self.either(d.pick(idle, idle, idle, idle, idle + 10_000, max(idle - 1, 0), 300_000, 299_999))
+
+    def end(self):
+        """The end of a session: a stop, P3 max running out in a tick, a drop or a start, or a restart on or one beside 300 ms."""
+        d, link = self.dice, self.link
+        p2min, p2max, p3min, p3max, _ = link.windows
+        way = d.below(8)
+        if way < 4:
+            self.message("t", [0x82], p3min, p3min + 10_000)
+            if link.state == "up":
+                self.message("e", [0xC2], p2min, p2max)
+        elif way < 7 and p3max != NO_LIMIT:
+            at = self.after(p3max + d.pick(1, 1, 1, 0))
+            if d.one_in(2):
+                self.either(at - link.mark)
+            else:
+                self.send(d.pick("T", "D"), "", 0, at, at)
+        else:
+            self.either(d.pick(299_999, 300_000, p3min, 250_000))
 
     def initialize(self):
         d, link = self.dice, self.link
@@ -397,8 +462,7 @@ class Sessions:
         """A frame without addresses, its bytes end to end."""
         frame = [len(data)] + data
         for i, value in enumerate(frame + [sum(frame) % 256]):
-            start = max(self.link.mark + (0 if i else gap), self.link.clock)
-            self.send("B", side, value, start, start + 960)
+            self.hear(side, value, 0 if i else gap)
 
     def exchange(self):
         d, link = self.dice, self.link
@@ -473,6 +537,8 @@ class Sessions:
                 self.start()
             elif self.link.state == "init":
                 self.initialize()
+            elif self.dice.one_in(5):
+                self.end()
             else:
                 self.exchange()
         return self
@@ -497,8 +563,8 @@ def example():
 
 
 def scripts():
-    """Rare turns, one by one: a second address at the very end of the first one's window; a drop on a held message; 6 and 7 in one event; and a
-    late answer."""
+    """Rare turns, one by one: a second address at the very end of the first one's window; a drop on a held message; 6 and 7 in one event; a late
+    answer; and idle times one after another."""
     s = Sessions(0)
     s.send("A", "", 0x33, 300_000, 2_300_000)
     s.send("A", "", 0x33, 2_600_000, 2_600_000)
@@ -517,7 +583,34 @@ def scripts():
     v.whole("t", [0x3E], 60_000)
     v.whole("e", [0xC3, 0x03], 30_000)
     v.whole("t", [0x3E], 10_000)
-    return [s, t, u, v]
+    w = example()  # after a stop P3 min, which a report 8 and an outside byte keep; after a drop 300 ms; after P3 max 0; after a wrong low 300 ms
+    w.whole("t", [0x82], 60_000)
+    w.whole("e", [0xC2], 30_000)
+    w.call("W", 54_999)
+    w.call("A", 54_999)
+    w.hear("t", 0x00, 0)
+    w.call("A", 54_999)
+    w.call("D", 60_000)
+    w.call("A", 299_999)
+    w.connect(0xD5)
+    w.call("T", 5_000_001)
+    w.hear("e", 0x00, 6_000_000)
+    w.call("W", 0, 23_999)
+    w.call("A", 0)
+    w.call("A", 300_000)
+    x = Sessions(0)  # P3 max, of 250 ms, runs out in a start, which goes on; in a drop and before one, after which 300 ms are asked; and a stop
+    for turns in ("A", 250_001), ("W", 250_001), ("D", 250_001, "A", 299_999), ("T", 250_001, "D", 260_000, "W", 299_999):
+        x.connect(0xD5)
+        x.whole("t", [0x83, 0x03, 0x00, 0x01, 0x0C, 0x01, 0x0A], 5_500)
+        x.whole("e", [0xC3, 0x03], 0)
+        for kind, gap in zip(turns[::2], turns[1::2]):
+            x.call(kind, gap)
+    x.connect(0xD5)
+    x.whole("t", [0x82], 5_500)
+    x.whole("e", [0xC2], 0)
+    x.call("W", 5_499)
+    x.call("W", 5_500)
+    return [s, t, u, v, w, x]
 
 
 # reports that must come up, and some that must come together in one event
@@ -530,6 +623,8 @@ TOGETHER = {
     ((1, 0), (7, 1)),
     ((2, 2), (7, 4), (8, 0)),
 }
+# by what starts must have been judged, and what they had to spare: the idle time to the microsecond, or one less
+STARTS = {(what, spare) for what in ("fresh", "drop", (7, 1), (7, 4)) for spare in (0, -1)} | {((7, 2), 0)} | {((4, k), -1) for k in range(1, 7)}
 EVERY = {(1, 0), (3, 0), (5, 0), (6, 0), (8, 0)} | {(2, k) for k in range(1, 10)} | {(4, k) for k in range(1, 7)} | {(7, k) for k in range(1, 5)}
 
 
@@ -548,7 +643,8 @@ def main(what):
     seen = {r[:2] for s in runs for (_, reports), _ in s.answers for r in reports}
     numbers = {no for s in runs for (no, _), _ in s.answers}
     together = {tuple(r[:2] for r in reports) for s in runs for (_, reports), _ in s.answers}
-    missing = sorted(EVERY - seen) + sorted(TOGETHER - together) + sorted({0, 1, 2, 3} - numbers)
+    starts = {one for s in runs for one in s.starts}
+    missing = sorted(EVERY - seen) + sorted(TOGETHER - together) + sorted({0, 1, 2, 3} - numbers) + sorted(STARTS - starts, key=str)
     if missing:
         sys.exit(f"the made-up lists do not reach {missing}")
     for s in runs:
