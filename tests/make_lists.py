@@ -1,6 +1,6 @@
 #!/usr/bin/env python3
 """Writes event lists for the listing program, made up from a seed: sessions with times on and one beside the edge of every window, and, among their
-lines, ones that can't be read. Some lists go through every key byte, timing code and first byte, and any byte at every place of a line.
+lines, ones that can't be read. Some lists go through every key byte, timing code, first byte and idle time, and any byte at every place of a line.
 
 Use: tests/make_lists.py SEED EVENTS DIR (some 300 files into DIR, which must not be there yet, with at least EVENTS events to be taken)
 """
@@ -53,6 +53,14 @@ class Talk(Sessions):
             asked = d.pick(asked[:-1], asked + [d.below(256)])
         self.ask_and_answer(asked, given)
 
+    def end(self):
+        """Now and then under a P3 max of 250 ms: a start may come after it and sooner than 300 ms."""
+        d = self.dice
+        if d.one_in(3):
+            self.ask_and_answer([0x83, 0x03, 0x00, d.pick(1, 0xFF), d.pick(0x0B, 0xFF, 1 + d.below(255)), 1, 0], [0xC3, 0x03])
+        if self.link.state == "up":
+            super().end()
+
     def codes(self):
         """Mostly allowed ones, and ones beside them."""
         d = self.dice
@@ -88,7 +96,7 @@ class Talk(Sessions):
         return self.go_on(n)
 
 
-# ---- every key byte, byte of an initialization, first byte of a message, timing code and answer
+# ---- every key byte, byte of an initialization, first byte of a message, timing code, answer and idle time
 
 
 class Sweep(Sessions):
@@ -96,18 +104,7 @@ class Sweep(Sessions):
         super().__init__(0)
 
     def wait(self, gap):
-        at = max(self.link.mark + gap, self.link.clock)
-        self.send("T", "", 0, at, at)
-
-    def hear(self, side, value, gap, since=None):
-        at = max((self.link.mark if since is None else since) + gap, self.link.clock)
-        self.send("B", side, value, at, at + 960)
-
-    def connect(self, kb1, kb2=0x8F):
-        at = max(self.link.mark + 300_000, self.link.clock)
-        self.send("A", "", 0x33, at, at + 1000)
-        for side, value, gap in (("e", 0x55, 60_000), ("e", kb1, 5_000), ("e", kb2, 0), ("t", 255 - kb2, 25_000), ("e", 0xCC, 25_000)):
-            self.hear(side, value, gap)
+        self.call("T", gap)
 
     def keys(self):
         for value in range(256):
@@ -121,8 +118,7 @@ class Sweep(Sessions):
             script = bytes.fromhex(script)
             for place in range(len(script)):
                 for value in range(256):
-                    at = max(self.link.mark + 300_000, self.link.clock)
-                    self.send(kind, "", 0x33, at, at + 25_000)
+                    self.call(kind, 300_000)
                     for i, right in enumerate(script):
                         if self.link.state == "init":
                             side, gap, _, _ = self.link.due
@@ -190,6 +186,60 @@ class Sweep(Sessions):
         limit = 100_000_000 if limit == NO_LIMIT else limit
         self.wait(limit)
         self.wait(limit + 1)
+
+    def idle_times(self):
+        """Sessions under several P3 min that end in several ways, what may come while a link is down, and a start on or one before the idle time or 300
+        ms; then starts and drops on links that are still up, unless P3 max has run out."""
+        for kb1, codes in ((0x67, None), (0xD5, None), (0x67, [0x00, 0x01, 0x01, 0x01, 0x00]), (0xD5, [0x00, 0x01, 0xFF, 0x01, 0x0A])):
+            for end in "82", "T", "D":
+                for between in ("", "b", "8", "88", "b8", "8b", "d", "bd", "db", "8d", "r", "c", "w", "s", "e", "v"):
+                    for start in "less", "same", 299_999, 300_000:
+                        self.session(kb1, codes)
+                        self.finish(end)
+                        for what in between:
+                            self.between(what)
+                        idle = self.link.idle()
+                        self.call("AW"[len(self.events) % 2], {"less": max(idle - 1, 0), "same": idle}.get(start, start))
+            for kind in "AWD":
+                for gap in 0, 20_001, 55_000, 250_000, 250_001, 299_999, 300_000, 5_000_000, 5_000_001:
+                    self.session(kb1, codes)
+                    self.call(kind, gap)
+                    self.call("A", 299_999)
+        return self
+
+    def session(self, kb1, codes):
+        self.connect(kb1)
+        if codes:
+            self.ask_and_answer([0x83, 0x03] + codes, [0xC3, 0x03])
+
+    def finish(self, how):
+        """By a stop, or by P3 max in a tick or a drop."""
+        if how == "82":
+            self.ask_and_answer([0x82], [0xC2])
+        else:
+            self.call(how, self.link.windows[3] + 1)
+
+    def between(self, what):
+        """An outside byte, a report 8, a drop; or a start that fails: run out, left to be closed, by its low, or by a byte's side, time or value."""
+        idle = self.link.idle()
+        if what == "b":
+            self.hear("t", 0x00, 1_000)
+        elif what == "8":
+            self.call("W", max(idle - 1, 0))
+        elif what == "d":
+            self.call("D", idle)
+        elif what == "w":
+            self.call("W", idle, 23_999)
+        else:
+            self.call("A", idle, 1_000)
+        if what == "r":
+            self.wait(300_001)
+        elif what == "s":
+            self.hear("t", 0x55, 60_000)
+        elif what == "e":
+            self.hear("e", 0x55, 59_999)
+        elif what == "v":
+            self.hear("e", 0x54, 60_000)
 
 
 # ---- lines
@@ -320,7 +370,7 @@ def fixed_lists():
     yield from (b"", b"\n", b"\n\n\n", b"T 5", b"T 5\n", b" ", b"\0", b"T 5\n\n", b"T 5\r\n", b"T 4000000000000\nT 4000000000001\n")
     yield from (own, own[:-1], own + b"\n", own[:-1] + b"\r", b"\n" + own)
     yield from (text(map(line, s.events)) for s in scripts())
-    for sweep in (Sweep.keys, Sweep.initializations, Sweep.first_bytes, Sweep.codes, Sweep.answers):
+    for sweep in (Sweep.keys, Sweep.initializations, Sweep.first_bytes, Sweep.codes, Sweep.answers, Sweep.idle_times):
         yield text(map(line, sweep(Sweep()).events))
     yield text(every_byte())
     yield text(tails())
