@@ -6,7 +6,7 @@
  *
  * reads events, one a line, from FILE or from standard input and writes the listing to standard output.
  * Compiled with -DTALLY it also says on standard error, at the end, how many events it took and how often every
- * report with its reason and every refusal came.
+ * report with its reason, every refusal and every situation of an idle time came.
  *
  * All times are in microseconds. Memory is constant; a line may have any length and any bytes.
  */
@@ -26,7 +26,7 @@
 #define NO_LIMIT    UINT64_MAX
 
 #define MESSAGE_GAP 20000u   /* a longer silence ends a message or damage */
-#define IDLE        300000u  /* silence before an address or a wake-up */
+#define LONG_IDLE   300000u  /* silence before an address or a wake-up, unless a stop or P3 max made it shorter */
 #define LOW_MIN     24000u   /* a wake-up's low */
 #define LOW_MAX     26000u
 #define WAKE_MIN    49000u   /* from a wake-up's fall to the tester's first byte */
@@ -102,6 +102,19 @@ static void put_number(uint64_t number)
 static unsigned long seen_report[9][10];
 static unsigned long seen_refusal[5];
 
+/* How an address or a wake-up stands to its idle time. */
+enum situation {
+    EDGE_NONE = 1, EDGE_NORMAL, EDGE_EXTENDED, EDGE_CHANGED, EDGE_LONG, /* on it or one before: 0, P3 min, 300 ms */
+    KEPT,                                                 /* by a P3 min that a report 8 kept */
+    BYTE_NONE, BYTE_P3_MIN,                               /* by 0 or a P3 min, behind an outside byte */
+    OUT_IN_ADDRESS, OUT_IN_WAKE_UP,                       /* by 0, as P3 max ran out in the start itself */
+    RESTART,
+    OUT_IN_DROP, OUT_DROPPED, STOP_DROPPED, START_FAILED, /* by 300 ms, in place of a shorter time */
+    SITUATIONS = START_FAILED + 6                         /* START_FAILED is one for each reason */
+};
+
+static unsigned long seen_idle[SITUATIONS][2]; /* answered with report 8, and started */
+
 static void print_tally(uint64_t events)
 {
     fprintf(stderr, "taken %llu\n", (unsigned long long)events);
@@ -112,6 +125,10 @@ static void print_tally(uint64_t events)
     for (int number = 1; number < 5; number++)
         if (seen_refusal[number])
             fprintf(stderr, "refused %d %lu\n", number, seen_refusal[number]);
+    for (int situation = 1; situation < SITUATIONS; situation++)
+        for (int started = 0; started < 2; started++)
+            if (seen_idle[situation][started])
+                fprintf(stderr, "idle %d %d %lu\n", situation, started, seen_idle[situation][started]);
 }
 #endif
 
@@ -246,6 +263,7 @@ struct link {
     enum phase phase;
     uint64_t clock;  /* end of the last event taken, or of the one being taken */
     uint64_t mark;   /* end of the last A, W or B taken */
+    uint64_t idle;   /* while down: silence from the mark that an A or W needs */
     uint64_t events; /* taken so far */
     uint64_t named;  /* bytes that reports have named */
     struct counts counts;
@@ -309,9 +327,91 @@ static void report(struct link *link, enum report number, int reason, uint64_t b
 #endif
 }
 
+#ifdef TALLY
+/* The turn that the idle time goes by, and what came since. */
+static struct {
+    enum report number;
+    uint64_t event;         /* how many events were taken up to it */
+    uint64_t before;        /* the idle time before it */
+    enum situation instead; /* if that was shorter */
+    bool byte, refused;     /* since then, an outside byte, and the last start answered with report 8 */
+} turn;
+
+static void tally_turn(const struct link *link, enum report number, int reason)
+{
+    enum situation instead = 0;
+
+    if (number == FAILED)
+        instead = START_FAILED + reason - 1;
+    else if (reason == DROPPED && link->idle > 0)
+        instead = STOP_DROPPED;
+    else if (reason == DROPPED)
+        instead = turn.event == link->events ? OUT_IN_DROP : OUT_DROPPED;
+    turn.number = number;
+    turn.event = link->events;
+    turn.before = link->idle;
+    turn.instead = link->idle < LONG_IDLE ? instead : 0;
+    turn.byte = turn.refused = false;
+}
+
+static enum situation edge(const struct link *link)
+{
+    if (link->idle == 0)
+        return EDGE_NONE;
+    if (link->idle == LONG_IDLE)
+        return EDGE_LONG;
+    if (link->idle != timing_of_keys(link->kb1).p3_min)
+        return EDGE_CHANGED;
+    return bit(link->kb1, 4) ? EDGE_EXTENDED : EDGE_NORMAL;
+}
+
+/*
+ * A start is judged. Where a shorter time lets it start, it counts if 300 ms would not have; where 300 ms refuse it, and
+ * a shorter time was before them, if that would have let it start.
+ */
+static void tally_start(const struct link *link, const struct event *event)
+{
+    uint64_t gap = event->start - link->mark;
+    bool started = gap >= link->idle;
+    bool now = turn.event == link->events;
+
+    if (gap == link->idle || gap + 1 == link->idle)
+        seen_idle[edge(link)][started]++;
+    if (link->idle == LONG_IDLE) {
+        if (turn.instead && gap >= turn.before)
+            seen_idle[turn.instead][started]++;
+        if (now && turn.number == LINK_DOWN)
+            seen_idle[RESTART][started]++;
+    } else if (gap < LONG_IDLE) {
+        if (turn.refused)
+            seen_idle[KEPT][started]++;
+        if (turn.byte)
+            seen_idle[link->idle == 0 ? BYTE_NONE : BYTE_P3_MIN][started]++;
+        if (now)
+            seen_idle[event->kind == 'A' ? OUT_IN_ADDRESS : OUT_IN_WAKE_UP][started]++;
+    }
+    turn.refused = !started;
+}
+#endif
+
+/* The idle time goes by the latest report of a start that failed or a link that went down, or the latest drop. */
+static void set_idle(struct link *link, enum report number, int reason)
+{
+#ifdef TALLY
+    tally_turn(link, number, reason);
+#endif
+    if (number == LINK_DOWN && reason == STOPPED)
+        link->idle = link->timing.p3_min;
+    else if (number == LINK_DOWN && reason == RUN_OUT)
+        link->idle = 0;
+    else
+        link->idle = LONG_IDLE;
+}
+
 static void go_down(struct link *link, enum report number, int reason)
 {
     report(link, number, reason, held(link));
+    set_idle(link, number, reason);
     link->phase = DOWN;
 }
 
@@ -366,7 +466,10 @@ static void wait_for(struct link *link, enum stage stage, uint64_t from)
 
 static bool line_was_idle(struct link *link, const struct event *event)
 {
-    if (event->start - link->mark >= IDLE)
+#ifdef TALLY
+    tally_start(link, event);
+#endif
+    if (event->start - link->mark >= link->idle)
         return true;
     report(link, NOT_IDLE, 0, 0);
     return false;
@@ -389,11 +492,17 @@ static void take_wake_up(struct link *link, const struct event *event)
     if (!line_was_idle(link, event))
         return;
     if (low < LOW_MIN || low > LOW_MAX) {
-        report(link, FAILED, INIT_LOW, 0);
+        go_down(link, FAILED, INIT_LOW);
         return;
     }
     link->start.sum = 0;
     wait_for(link, ASK_FORMAT, event->start);
+}
+
+static void take_drop(struct link *link)
+{
+    close_all(link, DROPPED);
+    set_idle(link, LINK_DOWN, DROPPED); /* also where the link was down already, without a report */
 }
 
 /* Whether a byte is what its stage asks for. Key bytes are kept, and judged as a pair. */
@@ -620,6 +729,9 @@ static void take_byte(struct link *link, const struct event *event)
     switch (link->phase) {
     case DOWN:
         report(link, OUTSIDE, 0, 1);
+#ifdef TALLY
+        turn.byte = true;
+#endif
         break;
     case STARTING:
         starting_byte(link, event);
@@ -649,7 +761,7 @@ static enum refusal take(struct link *link, const struct event *event)
     else if (event->kind == 'W')
         take_wake_up(link, event);
     else if (event->kind == 'D')
-        close_all(link, DROPPED);
+        take_drop(link);
     if (event->kind != 'T' && event->kind != 'D')
         link->mark = event->end;
     return TAKEN;
@@ -826,7 +938,7 @@ static void put_end(const struct link *link)
 
 int main(int argc, char **argv)
 {
-    static struct link link; /* fresh: all zero, down */
+    static struct link link = { .idle = LONG_IDLE }; /* fresh: down, and all else zero */
     int file = STDIN_FILENO;
 
     if (argc > 2) {
