@@ -106,7 +106,7 @@ static unsigned long seen_refusal[5];
 enum situation {
     EDGE_NONE = 1, EDGE_NORMAL, EDGE_EXTENDED, EDGE_CHANGED, EDGE_LONG, /* on it or one before: 0, P3 min, 300 ms */
     KEPT,                                                 /* by a P3 min that a report 8 kept */
-    BYTE_NONE, BYTE_P3_MIN,                               /* by 0 or a P3 min, behind an outside byte */
+    BYTE_NONE, BYTE_P3_MIN,                               /* by 0 or a P3 min, after an outside byte */
     OUT_IN_ADDRESS, OUT_IN_WAKE_UP,                       /* by 0, as P3 max ran out in the start itself */
     RESTART,
     OUT_IN_DROP, OUT_DROPPED, STOP_DROPPED, START_FAILED, /* by 300 ms, in place of a shorter time */
@@ -263,7 +263,7 @@ struct link {
     enum phase phase;
     uint64_t clock;  /* end of the last event taken, or of the one being taken */
     uint64_t mark;   /* end of the last A, W or B taken */
-    uint64_t idle;   /* while down: silence from the mark that an A or W needs */
+    uint64_t idle;   /* silence from the mark that an A or W needs while the link is down */
     uint64_t events; /* taken so far */
     uint64_t named;  /* bytes that reports have named */
     struct counts counts;
@@ -366,8 +366,8 @@ static enum situation edge(const struct link *link)
 }
 
 /*
- * A start is judged. Where a shorter time lets it start, it counts if 300 ms would not have; where 300 ms refuse it, and
- * a shorter time was before them, if that would have let it start.
+ * A start is judged. Where a shorter time lets it start, it counts if 300 ms would not have; where 300 ms that came in
+ * place of a shorter time refuse it, if that would have let it start.
  */
 static void tally_start(const struct link *link, const struct event *event)
 {
@@ -497,12 +497,6 @@ static void take_wake_up(struct link *link, const struct event *event)
     }
     link->start.sum = 0;
     wait_for(link, ASK_FORMAT, event->start);
-}
-
-static void take_drop(struct link *link)
-{
-    close_all(link, DROPPED);
-    set_idle(link, LINK_DOWN, DROPPED); /* also where the link was down already, without a report */
 }
 
 /* Whether a byte is what its stage asks for. Key bytes are kept, and judged as a pair. */
@@ -740,6 +734,12 @@ static void take_byte(struct link *link, const struct event *event)
         connected_byte(link, event);
         break;
     }
+}
+
+static void take_drop(struct link *link)
+{
+    close_all(link, DROPPED);
+    set_idle(link, LINK_DOWN, DROPPED); /* also where the link was down already, without a report */
 }
 
 static enum refusal take(struct link *link, const struct event *event)
