@@ -22,9 +22,10 @@ use Rattle.demands.proofs.Deciding.Agree.{Agree, reports-same, held-sam
 use Rattle.demands.proofs.Deciding.SameList.{Has, same-list}
 use Rattle.demands.proofs.Deciding.Fixed.{turn-behind, equal}
 use Rattle.demands.proofs.Deciding.Sharing.{Both, turned, here, there, formed-here}
-use Rattle.demands.proofs.Deciding.Starts.{three, four, eight}
+use Rattle.demands.proofs.Deciding.Starts.{three}
 use Rattle.demands.proofs.Deciding.Messages.{one, two}
 use Rattle.demands.proofs.Deciding.Ends.{five, six, seven}
+use Rattle.demands.proofs.Deciding.Lows.{four, eight}
 use Rattle.demands.proofs.DemandOne.{demand-one}
 use Rattle.demands.proofs.DemandTwo.{demand-two}
 use Rattle.demands.proofs.DemandThree.{demand-three}

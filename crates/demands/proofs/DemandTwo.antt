@@ -17,9 +17,8 @@ use Rattle.demands.proofs.Codecs.LengthPlaced.{built-placed}
 use Rattle.demands.proofs.Endings.DownsExactly as leaving
 use Rattle.demands.proofs.Endings.EachFormed as each
 use Rattle.demands.proofs.Endings.FailsExactly as failing
-use Rattle.demands.proofs.Connecting.ConnectsExactly as exactly
 use Rattle.demands.proofs.Endings.StartingExactly as initializing
-use Rattle.demands.proofs.Connecting.ConnectedReport as names
+use Rattle.demands.proofs.IdleTimes.AskedTime as starts
 use Rattle.demands.proofs.Sessions.OpeningByte as opening
 use Rattle.demands.proofs.Sessions.OpensFirst as beginning
 use Rattle.demands.proofs.Damage.DamageExactly as damaging
@@ -47,8 +46,8 @@ foundation = record {
 proved : DemandTwo ours
 proved = record {
   foundation = foundation;
-  connects-exactly = exactly.connects-exactly;
-  connects-names = names.connects-names;
+  connects-exactly = starts.connects-exactly;
+  connects-names = starts.connects-names;
   frames-read = reporting.frames-read;
   frames-exactly = opening.frames-exactly;
   turns-exactly = opening.turns-exactly;

@@ -14,7 +14,7 @@ use Rattle.timing.specs.Timing.{setOf}
 use Rattle.talk.specs.declared.Reply.the-variants.{Never}
 use Rattle.talk.specs.declared.Request.the-variants.{Ordinary}
 use Rattle.phases.specs.Phases.{isStarting, isOpen, isConnected}
-use Rattle.phases.specs.declared.State.the-variants.{Quiet}
+use Rattle.phases.specs.declared.State.the-variants.{Down, Quiet}
 use Rattle.reports.specs.Reporting.{places, noReports, listed}
 use Rattle.events.specs.declared.Event.{Event}
 use Rattle.link.specs.declared.Link.{Link}
@@ -32,8 +32,9 @@ use Rattle.demands.specs.Histories.{after, reportsOf}
 use Rattle.demands.specs.Ours.{ours, ourAnswer}
 use Rattle.demands.specs.Accounts.{countsOf, heldIn}
 use Rattle.demands.specs.Inputs.{historyOf, saidFor}
-use Rattle.demands.specs.Connecting.{Connects, Connected}
+use Rattle.demands.specs.Connecting.{ConnectsBy, Connects, Connected}
 use Rattle.demands.specs.Sessions.{Talk, inForce, Session, SomeSession}
+use Rattle.demands.specs.Idle.{idleIn}
 use Rattle.demands.specs.Endings.{Starting}
 
 -- what a session says of our link
@@ -46,7 +47,7 @@ pub record IsIn (t : Talk) (l : Link) : Type 0 where
 
 -- what our link is after the event that completes an initialization: connected, with nothing open, by its key bytes. "Timing starts at the set KB1 names",
 -- and nothing is expected yet.
-pub record ConnectedLink (log : Log) (e : Event) (c : Connects log e) (a : Answer) : Type 0 where
+pub record ConnectedLink {until : Log → Event → ℕ} (log : Log) (e : Event) (c : ConnectsBy until log e) (a : Answer) : Type 0 where
   pub answer : Connected log e c (listed (a .reports))
   pub state : a .link .phase .state ≡ Quiet
   pub pair : a .link .phase .start .pair ≡ c .pair
@@ -63,11 +64,11 @@ pub record Beside : Type 0 where
   pub refused-zeros : (l : Link) (c : Counts) (e : Event) → Not (stepOf l c e .answer .no ≡ 0) → stepOf l c e .answer .reports ≡ noReports
   -- ---- beside demand 2
   -- The link was not connected, and is connected after the event, exactly if the event is taken and completes an initialization.
-  pub becomes-connected-exactly : (es : Log) (e : Event)
+  pub becomes-connected-exactly : (es : Log) (e : Event) → InBytes es
       → ((isConnected (after ours es .link .phase .state) ≡ false) × (isConnected (after ours (es ▷ e) .link .phase .state) ≡ true))
-      ↔ ((numberAfter (takenOf es) e ≡ taken) × Connects (takenOf es) e)
+      ↔ ((numberAfter (takenOf es) e ≡ taken) × Connects ours (takenOf es) e)
   -- It then has the initialization's key bytes, and the windows of the set that KB1 names.
-  pub connects-link : (es : Log) (e : Event) → numberAfter (takenOf es) e ≡ taken → (c : Connects (takenOf es) e)
+  pub connects-link : (es : Log) (e : Event) → InBytes es → numberAfter (takenOf es) e ≡ taken → (c : Connects ours (takenOf es) e)
       → ConnectedLink (takenOf es) e c (ourAnswer es e)
   -- Our rules on messages, byte by byte, end one in a frame exactly if `read` takes its bytes under the same key bytes.
   pub messages : (kb1 kb2 : ℕ) (side : Side) (s : List ℕ) → goodPair kb1 kb2 ≡ true → ((i : ℕ) → getD s i 0 < 256)
@@ -77,7 +78,9 @@ pub record Beside : Type 0 where
   -- .. and then its key bytes, its windows and the reply that may come are the session's. ..
   pub session-link : (es : Log) (t : Talk) → InBytes es → Session ours es t → IsIn t (after ours es .link)
   -- .. It is in an initialization exactly while one of the history lasts.
-  pub starting-exactly : (es : Log) → (isStarting (after ours es .link .phase .state) ≡ true) ↔ Starting ours es
+  pub starting-exactly : (es : Log) → InBytes es → (isStarting (after ours es .link .phase .state) ≡ true) ↔ Starting ours es
+  -- While it is down, the idle time that it keeps for the next start is the one that the history says.
+  pub idle-link : (es : Log) → InBytes es → after ours es .link .phase .state ≡ Down → after ours es .link .phase .idle ≡ idleIn ours (takenOf es)
   -- ---- beside demand 3
   -- No byte is held while neither a message, nor damage, nor an initialization is open.
   pub idle : (es : Log) → isOpen (after ours es .link .phase .state) ≡ false → isStarting (after ours es .link .phase .state) ≡ false → heldIn ours es ≡ 0

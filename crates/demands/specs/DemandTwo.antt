@@ -76,16 +76,17 @@ pub record DemandTwo (m : Machine) : Type 0 where
   pub foundation : Foundation
   -- ---- b. THE LINK CONNECTS EXACTLY when every byte, complement and window of an initialization holds
   -- Over every list of events from a fresh link: the next event is answered with report 3 exactly if it is taken and completes an initialization. Which
-  -- events are taken, and what completes one, is said of the events alone (specs/Logs.antt, Connecting.antt, Idle.antt, Starts.antt).
-  pub connects-exactly : (es : Log) (e : Event)
-      → Says connectedReport (reportsTo m es e) ↔ ((numberAfter (takenOf es) e ≡ taken) × Connects (takenOf es) e)
+  -- events are taken, and what completes one, is said of the events alone (specs/Logs.antt, Connecting.antt, Starts.antt), but for the idle time before its
+  -- start, which goes by how the link went down, and so by the reports until then (Idle.antt). (`InBytes`: values of events are bytes, as they are in the code.)
+  pub connects-exactly : (es : Log) (e : Event) → InBytes es
+      → Says connectedReport (reportsTo m es e) ↔ ((numberAfter (takenOf es) e ≡ taken) × Connects m (takenOf es) e)
   -- That report is the only one of its event and names all bytes of the initialization and no other; its key bytes are good.
-  pub connects-names : (es : Log) (e : Event) → numberAfter (takenOf es) e ≡ taken → (c : Connects (takenOf es) e)
+  pub connects-names : (es : Log) (e : Event) → InBytes es → numberAfter (takenOf es) e ≡ taken → (c : Connects m (takenOf es) e)
       → Connected (takenOf es) e c (reportsTo m es e)
   -- ---- c. WHAT THE LINK REPORTS AS 1 is a frame that `read` takes, and its timing is the one that the frames say
   -- A session of the history lasts from a report 3 until a report 7, with the key bytes among the bytes that the report 3 names. Its windows are KB1's set,
   -- the allowed codes of the latest tester frame, or as before, as `windowsIn` reads it off the session's frames; the reply that may come is the one that its
-  -- last report leaves. (`InBytes`: values of events are bytes, as they are in the code.)
+  -- last report leaves.
   -- Each report 1 is made in a session and names bytes that `read` takes as a frame under the session's key bytes.
   pub frames-read : (es : Log) (e : Event) (r : Report) → InBytes (es ▷ e) → Among r (reportsTo m es e) → r .number ≡ frameReport → Reads m es e r
   -- And the other way round: a report 1 names these bytes exactly if the event is the byte that ends a message of the session in them. A message goes from
@@ -131,23 +132,23 @@ pub record DemandTwo (m : Machine) : Type 0 where
   pub only-in-session : (es : Log) (e : Event) → InBytes es
       → Says noReplyReport (reportsTo m es e) ⊎ Says downReport (reportsTo m es e) → SomeSession m es
   -- Report 8 exactly if an address or a wake-up comes before its idle time is over; ..
-  pub not-idle-exactly : (es : Log) (e : Event)
-      → Says notIdleReport (reportsTo m es e) ↔ ((numberAfter (takenOf es) e ≡ taken) × NotIdle (takenOf es) e)
+  pub not-idle-exactly : (es : Log) (e : Event) → InBytes es
+      → Says notIdleReport (reportsTo m es e) ↔ ((numberAfter (takenOf es) e ≡ taken) × NotIdle m (takenOf es) e)
   -- .. report 4 with reason 3 exactly if a wake-up comes later, and is low for less than 24 or more than 26 ms.
-  pub wrong-low-exactly : (es : Log) (e : Event)
-      → Tells failedReport wrongLow (reportsTo m es e) ↔ ((numberAfter (takenOf es) e ≡ taken) × WrongLow (takenOf es) e)
+  pub wrong-low-exactly : (es : Log) (e : Event) → InBytes es
+      → Tells failedReport wrongLow (reportsTo m es e) ↔ ((numberAfter (takenOf es) e ≡ taken) × WrongLow m (takenOf es) e)
   -- Every other address or wake-up that is taken starts an initialization, and it lasts until a report 3 or 4 (`Starting`).
   -- In an initialization, by its start and its bytes so far and by what is due next: report 4 with reason 1 exactly if the present window's end has
   -- passed, with reason 4, 5 or 6 exactly if the byte in time is from the wrong side, else early, else does not fit; report 3 exactly if it is right and
   -- the last; and otherwise the initialization goes on.
-  pub fails-exactly : (es : Log) (e : Event) → Starting m es → (u : UnderWay (takenOf es)) → Fails m es e u
-  pub under-way : (es : Log) → Starting m es → UnderWay (takenOf es)
+  pub fails-exactly : (es : Log) (e : Event) → InBytes es → Starting m es → (u : UnderWay (takenOf es)) → Fails m es e u
+  pub under-way : (es : Log) → InBytes es → Starting m es → UnderWay (takenOf es)
   -- Report 4 with reason 2 exactly if A, W or D comes in an initialization, and makes no report 4 with reason 1.
-  pub closed-start-exactly : (es : Log) (e : Event)
+  pub closed-start-exactly : (es : Log) (e : Event) → InBytes es
       → Tells failedReport closed (reportsTo m es e)
       ↔ ((numberAfter (takenOf es) e ≡ taken) × Starting m es × (Starter e ⊎ (e .kind ≡ Drop)) × Not (Tells failedReport windowOver (reportsTo m es e)))
   -- Outside an initialization a report 4 is one of a wrong low.
-  pub never-else : (es : Log) (e : Event) (k : ℕ) → Not (Starting m es) → Tells failedReport k (reportsTo m es e) → k ≡ wrongLow
+  pub never-else : (es : Log) (e : Event) (k : ℕ) → InBytes es → Not (Starting m es) → Tells failedReport k (reportsTo m es e) → k ≡ wrongLow
   -- Report 5 exactly if a byte comes in neither a session nor an initialization, or in one that ended as time passed to the byte (report 4 with reason 1,
   -- or report 7 with reason 2, at the same event).
   pub outside-exactly : (es : Log) (e : Event) → InBytes es

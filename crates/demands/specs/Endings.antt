@@ -25,18 +25,18 @@ use Rattle.demands.specs.Messages.{EndsInFrame}
 abbrev pub Starter : Event → Type 0
 Starter e = (e .kind ≡ Address) ⊎ (e .kind ≡ WakeUp)
 
--- "A or W needs 300 ms from the old mark to its start, else report 8 and down"
-abbrev pub NotIdle : Log → Event → Type 0
-NotIdle log e = Starter e × (e .start .0 < idleUntil log)
+-- "A or W needs 300 ms from the old mark to its start, else report 8 and down", with the idle time of the history for the 300 ms
+abbrev pub NotIdle : Machine → Log → Event → Type 0
+NotIdle m log e = Starter e × (e .start .0 < idleUntil m log e)
 
 -- "Low for 24 to 26 ms, else report 4 reason 3 at once."; the idle time is "judged before the length of the low"
-abbrev pub WrongLow : Log → Event → Type 0
-WrongLow log e = (e .kind ≡ WakeUp) × (idleUntil log ≤ e .start .0) × Not (Low e)
+abbrev pub WrongLow : Machine → Log → Event → Type 0
+WrongLow m log e = (e .kind ≡ WakeUp) × (idleUntil m log e ≤ e .start .0) × Not (Low e)
 
 -- ---- AN INITIALIZATION of the history: from an address or wake-up on that was idle long enough and, if a wake-up, is low for 24 to 26 ms, as
 -- long as no report 3 or 4 is made.
 pub data Starting (m : Machine) : Log → Type 0 where
-  starts : {es : Log} {e : Event} → numberAfter (takenOf es) e ≡ taken → Starter e → Not (NotIdle (takenOf es) e) → Not (WrongLow (takenOf es) e)
+  starts : {es : Log} {e : Event} → numberAfter (takenOf es) e ≡ taken → Starter e → Not (NotIdle m (takenOf es) e) → Not (WrongLow m (takenOf es) e)
       → Starting m (es ▷ e)
   goes-on : {es : Log} {e : Event} → Starting m es → Not (Says connectedReport (reportsTo m es e)) → Not (Says failedReport (reportsTo m es e))
       → Starting m (es ▷ e)

@@ -71,6 +71,11 @@ unfoldable pub lentLink : (m : Machine) → Lendings → m .Inner
 lentLink m nothing = m .fresh
 lentLink m (lend h c e) = m .step (lentLink m h) c e .link
 
+-- what a fold makes of reports, in order
+unfoldable pub folded : {S : Type 0} → (S → Report → S) → S → List Report → S
+folded each s [] = s
+folded each s (r ∷ rs) = folded each (each s r) rs
+
 -- a report of this number is among them
 unfoldable pub isAmong : ℕ → List Report → Bool
 isAmong number [] = false

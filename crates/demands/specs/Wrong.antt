@@ -8,11 +8,13 @@ use lib.Dec.{eqb}
 use Rattle.base.specs.Choice.{if_then_else_}
 use Rattle.base.specs.Numbers.{taken, tooMany}
 use Rattle.base.specs.Sums.{countSum}
-use Rattle.base.specs.Reports.{failedReport, outsideReport, noReason}
-use Rattle.timing.specs.Timing.{sameWindows}
+use Rattle.base.specs.Reports.{failedReport, outsideReport, downReport, notIdleReport, noReason, stopped, restarted}
+use Rattle.units.specs.declared.Micros.{Micros}
+use Rattle.timing.specs.Timing.{idleAtPowerOn, setOf, sameWindows}
 use Rattle.events.specs.Events.{isByte}
 use Rattle.events.specs.declared.Event.{Event}
-use Rattle.phases.specs.Phases.{isQuiet, isHeld, down}
+use Rattle.phases.specs.Phases.{isDown, isQuiet, isHeld, down, off}
+use Rattle.phases.specs.declared.Phase.{Phase}
 use Rattle.reports.specs.Reporting.{noReports, appended, listed}
 use Rattle.reports.specs.Counting.{zeroCounts, countedEvent}
 use Rattle.reports.specs.declared.Report.{Report}
@@ -23,7 +25,8 @@ use Rattle.link.specs.Stepping.{numberOf, refusedBy, stepOf}
 use Rattle.link.specs.declared.Link.{Link}
 use Rattle.link.specs.declared.Stepped.{Stepped}
 use Rattle.listing.specs.Listing.{heldOf}
-use Rattle.demands.specs.Histories.{Machine, Host}
+use Rattle.demands.specs.Histories.{Machine, Host, isAmong}
+use Rattle.demands.specs.Idle.{isDrop}
 use Rattle.demands.specs.Ours.{machineOf}
 
 -- other reports than the right ones, with the counts that fit them; other counts
@@ -68,7 +71,7 @@ outsideLink l e = record {
   taken = countSum (l .taken) 1;
   heard = heardWith (isByte (e .kind)) l;
   named = heardWith (isByte (e .kind)) l;
-  phase = down;
+  phase = off;
 }
 
 abbrev pub outsideStep : Link → Counts → Event → Stepped
@@ -220,3 +223,60 @@ swapped (r ∷ s ∷ rs) =
 
 abbrev pub shifting : Machine
 shifting = changing swapped sameCounts
+
+-- ---- OUR LINK WITH ANOTHER IDLE TIME than document 02 says
+abbrev idledFor : Micros → Phase → Phase
+idledFor idle p = record {
+  windows = p .windows;
+  message = p .message;
+  idle = idle;
+  fall = p .fall;
+  asked = p .asked;
+  state = p .state;
+  reply = p .reply;
+  request = p .request;
+  start = p .start;
+}
+
+abbrev atPhase : Link → Phase → Link
+atPhase l p = record { clock = l .clock; mark = l .mark; taken = l .taken; heard = l .heard; named = l .named; phase = p }
+
+abbrev tells : ℕ → ℕ → List Report → Bool
+tells number reason [] = false
+tells number reason (r ∷ rs) = if eqb (r .number) number && eqb (r .reason) reason then true else tells number reason rs
+
+-- where an event and its reports on a link call for it, another one
+abbrev idlingElse : (Link → Event → List Report → Bool) → (Link → Micros) → Machine
+idlingElse when idle = machineOf (λ l c e.
+    let s = stepOf l c e in
+    let a = s .answer in
+    if when l e (listed (a .reports))
+    then record {
+      answer = record { link = atPhase (a .link) (idledFor (idle l) (a .link .phase)); reports = a .reports; no = a .no };
+      counts = s .counts;
+    } else s)
+
+-- one that keeps 300 ms after a stop; ..
+abbrev pub patient : Machine
+patient = idlingElse (λ l e rs. tells downReport stopped rs) (λ l. idleAtPowerOn)
+
+-- .. one that keeps P3 min of KB1's set then, whatever is in force; ..
+abbrev pub unaware : Machine
+unaware = idlingElse (λ l e rs. tells downReport stopped rs) (λ l. setOf (l .phase .start .pair) .p3min)
+
+-- .. one that a drop while down leaves the shorter time; ..
+abbrev pub unmoved : Machine
+unmoved = idlingElse (λ l e rs. isDrop (e .kind) && isDown (l .phase .state)) (λ l. l .phase .idle)
+
+-- .. one that goes back to 300 ms at a start answered with 8; ..
+abbrev pub strict : Machine
+strict = idlingElse (λ l e rs. isAmong notIdleReport rs) (λ l. idleAtPowerOn)
+
+-- .. and one that judges a restart by P3 min
+abbrev pub hasty : Machine
+hasty = machineOf (λ l c e.
+    let s = stepOf l c e in
+    let a = s .answer in
+    let later = stepOf (atPhase l (down (l .phase .windows .p3min))) c e .answer .link in
+    if isQuiet (l .phase .state) && tells downReport restarted (listed (a .reports))
+    then record { answer = record { link = later; reports = appended noReports (a .reports .a); no = a .no }; counts = s .counts } else s)

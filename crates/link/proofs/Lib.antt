@@ -3,5 +3,4 @@ pub mod Walk
 pub mod Kept
 pub mod Long
 pub mod Three
-pub mod Followed
 pub mod One

@@ -13,7 +13,7 @@ use Rattle.base.specs.Numbers.{taken}
 use Rattle.base.specs.Reports.{noReplyReport, downReport, noReason, idleOver}
 use Rattle.base.proofs.Tests.{by-test}
 use Rattle.keys.specs.declared.Pair.{Pair}
-use Rattle.units.specs.Units.{gapOf}
+use Rattle.units.specs.Units.{micros, gapOf}
 use Rattle.units.specs.declared.Micros.{Micros}
 use Rattle.timing.specs.Timing.{isUnlimited, isPassed, decodedOf}
 use Rattle.timing.specs.Coded.{Bytes}
@@ -36,7 +36,7 @@ use Rattle.phases.specs.declared.Phase.{Phase}
 use Rattle.phases.proofs.StateTests.{open-connected}
 use Rattle.moves.specs.Moves.{still, makes, isSilent, afterSilence, afterP2, afterP3, afterWindow}
 use Rattle.moves.specs.declared.Move.{Move}
-use Rattle.moves.proofs.Rules.{Moment, at-silence, at-p2, at-p3, at-window, Rule, rests, breaks-off, waited, idled, expires, cuts-off, aborts, leaves}
+use Rattle.moves.proofs.Rules.{Moment, at-silence, at-p2, at-p3, at-window, Rule, rests, breaks-off, waited, idled, expires, cuts-off, aborts, leaves, drops}
 use Rattle.moves.proofs.Rules.{starts-slow, starts-fast, hurries, low, strays, misses, connects, goes-on, opens, errs, breaks, frames, grows, stops}
 use Rattle.moves.proofs.Rules.{by-silence, by-p2, by-p3, by-window}
 use Rattle.reports.specs.Reporting.{moved}
@@ -54,9 +54,9 @@ abbrev pub Long : Phase → Type 0
 Long p = isConnected (p .state) ≡ true → LongEnough (p .windows)
 
 -- ---- the phases that a move leads to
-down-long : Long down
+down-long : (idle : Micros) → Long (down idle)
 unfolding down isConnected
-down-long h = absurd (false≢true h)
+down-long idle h = absurd (false≢true h)
 
 starting-long : (fall : Micros) (start : Start) → Long (starting fall start)
 unfolding starting isConnected
@@ -127,17 +127,18 @@ unfolding isConnected
 rule-long mark e p k m (rests u) g = g
 rule-long mark e p k m (breaks-off o s) g = settled-long p g (open-connected (p .state) o)
 rule-long mark e p k m (waited q f t) g = settled-long p g (ap isConnected q)
-rule-long mark e p k m (idled q f t) g = down-long
-rule-long mark e p k m (expires s o) g = down-long
+rule-long mark e p k m (idled q f t) g = down-long _
+rule-long mark e p k m (expires s o) g = down-long _
 rule-long mark e p k m (cuts-off o) g = settled-long p g (open-connected (p .state) o)
-rule-long mark e p k m (aborts s) g = down-long
-rule-long mark e p k m (leaves c q) g = down-long
+rule-long mark e p k m (aborts s) g = down-long _
+rule-long mark e p k m (leaves c q) g = down-long _
+rule-long mark e p k m (drops d x) g = down-long _
 rule-long mark e p k m (starts-slow a i) g = starting-long _ _
 rule-long mark e p k m (starts-fast w i l) g = starting-long _ _
-rule-long mark e p k m (hurries s i) g = down-long
-rule-long mark e p k m (low w i l) g = down-long
-rule-long mark e p k m (strays d) g = down-long
-rule-long mark e p k m (misses s v) g = down-long
+rule-long mark e p k m (hurries s i) g = down-long _
+rule-long mark e p k m (low w i l) g = down-long _
+rule-long mark e p k m (strays d) g = down-long _
+rule-long mark e p k m (misses s v) g = down-long _
 rule-long mark e p k m (connects s v l) g = connected-long (p .start)
 rule-long mark e p k m (goes-on s v l) g = starting-long _ _
 rule-long mark e p k m (opens q r) g = holding-long p _ g (ap isConnected q)
@@ -145,12 +146,12 @@ rule-long mark e p k m (errs q r) g = damaged-long p _ g (ap isConnected q)
 rule-long mark e p k m (breaks h r) g = damaged-long p _ g (ap isConnected h)
 rule-long mark e p k m (frames h r s) g = framed-long p g (ap isConnected h)
 rule-long mark e p k m (grows h r s) g = holding-long p _ g (ap isConnected h)
-rule-long mark e p k m (stops q r) g = down-long
+rule-long mark e p k m (stops q r) g = down-long _
 
 -- IT HOLDS OF A FRESH LINK ..
 pub fresh-long : Long (freshLink .phase)
 unfolding freshLink
-fresh-long = down-long
+fresh-long = down-long _
 
 -- .. AND EVERY STEP KEEPS IT, for any counts and any event
 pub step-long : (l : Link) (c : Counts) (e : Event) → Long (l .phase) → Long (stepOf l c e .answer .link .phase)
@@ -165,7 +166,7 @@ paperP2 p gap =
 -- "Then, connected, no first reply awaited, P3 max passed: report 7 reason 2, down."
 unfoldable pub paperP3 : Phase → Micros → Move
 paperP3 p gap =
-    if isConnected (p .state) && not (isFirst (p .reply)) && isPassed (p .windows .p3max) gap then makes downReport idleOver down else still p
+    if isConnected (p .state) && not (isFirst (p .reply)) && isPassed (p .windows .p3max) gap then makes downReport idleOver (down (micros 0)) else still p
 
 -- time passes by them
 unfoldable pub paperPassed : Run → Micros → Micros → Run
@@ -183,9 +184,9 @@ settled-recent : (p : Phase) (gap : Micros) → Recent (settled p) gap
 unfolding settled talking isOpen
 settled-recent p gap o = absurd (false≢true o)
 
-down-recent : (gap : Micros) → Recent down gap
+down-recent : (idle gap : Micros) → Recent (down idle) gap
 unfolding down isOpen
-down-recent gap o = absurd (false≢true o)
+down-recent idle gap o = absurd (false≢true o)
 
 off-second : (a b : Bool) → (a && b) ≡ false → a ≡ true → b ≡ false
 off-second true b e t = e
@@ -212,11 +213,11 @@ module _ (mark start : Micros) where
 
   recent-3 : (p : Phase) (m : Move) → At p at-p3 m → Recent p gap → Recent (m .phase) gap
   recent-3 p m (rests u) g = g
-  recent-3 p m (idled q f t) g = down-recent gap
+  recent-3 p m (idled q f t) g = down-recent _ gap
 
   recent-4 : (p : Phase) (m : Move) → At p at-window m → Recent p gap → Recent (m .phase) gap
   recent-4 p m (rests u) g = g
-  recent-4 p m (expires s o) g = down-recent gap
+  recent-4 p m (expires s o) g = down-recent _ gap
 
   moved-recent : (r : Run) (m : Move) → Recent (m .phase) gap → Recent (moved r m .phase) gap
   moved-recent r m g = subst (λ (p : Phase). Recent p gap) (sym (moved-phase r m)) g
@@ -259,7 +260,7 @@ quiet-enough-2 p gap g s =
 pub quiet-enough-3 : (p : Phase) (gap : Micros) → Long p → Recent p gap → afterP3 p gap ≡ paperP3 p gap
 unfolding afterP3 paperP3
 quiet-enough-3 p gap g s =
-    ap (λ (b : Bool). if b then makes downReport idleOver down else still p)
+    ap (λ (b : Bool). if b then makes downReport idleOver (down (micros 0)) else still p)
     (same-test (p .state) (not (isFirst (p .reply))) (isPassed (p .windows .p3max) gap)
     (λ o. let w = g (open-connected (p .state) o) in not-passed (p .windows .p3max) gap (omega (arith, w .p3max-long)) (s o)))
 

@@ -19,7 +19,7 @@ use Rattle.phases.specs.declared.State.the-variants.{Down, Starting, Quiet, Hel
 use Rattle.phases.specs.declared.Phase.{Phase}
 use Rattle.moves.specs.declared.Move.{Move}
 use Rattle.moves.proofs.Rules.{Moment, at-silence, at-p2, at-p3, at-window, at-closing, at-leaving, at-start, at-byte, at-stop, at-end, next}
-use Rattle.moves.proofs.Rules.{Rule, Unmoved, rests, breaks-off, waited, idled, expires, cuts-off, aborts, leaves, starts-slow, starts-fast, hurries, low}
+use Rattle.moves.proofs.Rules.{Rule, Unmoved, rests, breaks-off, waited, idled, expires, cuts-off, aborts, leaves, drops, starts-slow, starts-fast, hurries, low}
 use Rattle.moves.proofs.Rules.{strays, misses, connects, goes-on, opens, errs, breaks, frames, grows, stops}
 use Rattle.reports.specs.Reporting.{places, listed, reportOf, told, moved}
 use Rattle.reports.specs.declared.Report.{Report}
@@ -139,6 +139,7 @@ module _ (mark : Micros) (e : Event) (p : Phase) where
   pays k m (cuts-off o) = omega (arith, open-two (p .state) (p .reply) o)
   pays k m (aborts s) = omega (arith, is s)
   pays k m (leaves c q) = omega (arith, is q, quiet-some (p .reply))
+  pays k m (drops d x) = omega arith
   pays k m (starts-slow a i) = omega arith
   pays k m (starts-fast w i l) = omega arith
   pays k m (hurries s i) = omega arith

@@ -47,8 +47,12 @@ byteHeard r e mark =
     moved r1 (afterStop (r1 .phase))
 
 abbrev pub actedBy : Kind → Run → Event → Micros → Run
-actedBy Address r e mark = moved (shut r restarted) (startingSlow (e .value) mark (e .start))
-actedBy WakeUp r e mark = moved (shut r restarted) (startingFast mark (e .start) (e .end))
+actedBy Address r e mark =
+    let r1 = shut r restarted in
+    moved r1 (startingSlow (r1 .phase .idle) (e .value) mark (e .start))
+actedBy WakeUp r e mark =
+    let r1 = shut r restarted in
+    moved r1 (startingFast (r1 .phase .idle) mark (e .start) (e .end))
 actedBy Byte r e mark = byteHeard r e mark
 actedBy Tick r e mark = r
 actedBy Drop r e mark = shut r dropped

@@ -50,8 +50,12 @@ byteTells r e mark =
 
 -- .. and in all
 abbrev pub actedTells : Kind → Run → Event → Micros → List Report
-actedTells Address r e mark = shutTells r restarted ++ tells (shut r restarted) (startingSlow (e .value) mark (e .start))
-actedTells WakeUp r e mark = shutTells r restarted ++ tells (shut r restarted) (startingFast mark (e .start) (e .end))
+actedTells Address r e mark =
+    let r1 = shut r restarted in
+    shutTells r restarted ++ tells r1 (startingSlow (r1 .phase .idle) (e .value) mark (e .start))
+actedTells WakeUp r e mark =
+    let r1 = shut r restarted in
+    shutTells r restarted ++ tells r1 (startingFast (r1 .phase .idle) mark (e .start) (e .end))
 actedTells Byte r e mark = byteTells r e mark
 actedTells Tick r e mark = []
 actedTells Drop r e mark = shutTells r dropped

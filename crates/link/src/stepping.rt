@@ -27,7 +27,7 @@ pub fn fresh() -> Link
         taken: 0,
         heard: 0,
         named: 0,
-        phase: phases::go_down(),
+        phase: phases::go_off(),
     }
 }
 
@@ -92,14 +92,16 @@ fn act(r: Run, e: Event, mark: Micros) -> Run
 {
     let kind = e.kind;
     match kind {
-        Kind::Address => make(
-            shut_all(r, base::reason::RESTARTED),
-            moves::starting_slow(e.value, mark, e.start),
-        ),
-        Kind::WakeUp => make(
-            shut_all(r, base::reason::RESTARTED),
-            moves::starting_fast(mark, e.start, e.end),
-        ),
+        Kind::Address => {
+            let r1 = shut_all(r, base::reason::RESTARTED);
+            let p1 = r1.phase;
+            make(r1, moves::starting_slow(p1.idle, e.value, mark, e.start))
+        }
+        Kind::WakeUp => {
+            let r2 = shut_all(r, base::reason::RESTARTED);
+            let p2 = r2.phase;
+            make(r2, moves::starting_fast(p2.idle, mark, e.start, e.end))
+        }
         Kind::Byte => hear_byte(r, e, mark),
         Kind::Tick => r,
         Kind::Drop => shut_all(r, base::reason::DROPPED),

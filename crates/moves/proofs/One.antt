@@ -9,11 +9,11 @@ use Rattle.phases.specs.declared.Phase.{Phase}
 use Rattle.events.specs.declared.Side.{Side}
 use Rattle.moves.specs.Moves.{startingSlow, startingFast, firstByte, afterByte, afterStop, isSilent, afterSilence, afterP2, afterP3, sinceOrigin, afterWindow, closing, leaving}
 
-pub starting-slow : (address : ℕ) (mark start : Micros) → Only (λ (r : Move). r ≡ startingSlow address mark start)
-starting-slow address mark start = only (startingSlow address mark start)
+pub starting-slow : (idle : Micros) (address : ℕ) (mark start : Micros) → Only (λ (r : Move). r ≡ startingSlow idle address mark start)
+starting-slow idle address mark start = only (startingSlow idle address mark start)
 
-pub starting-fast : (mark fall rise : Micros) → Only (λ (r : Move). r ≡ startingFast mark fall rise)
-starting-fast mark fall rise = only (startingFast mark fall rise)
+pub starting-fast : (idle mark fall rise : Micros) → Only (λ (r : Move). r ≡ startingFast idle mark fall rise)
+starting-fast idle mark fall rise = only (startingFast idle mark fall rise)
 
 pub first-byte : (p : Phase) (side : Side) (v : ℕ) (gap : Micros) → Only (λ (r : Phase). r ≡ firstByte p side v gap)
 first-byte p side v gap = only (firstByte p side v gap)

@@ -5,8 +5,9 @@
 use Prim.Native.Nat.{ℕ}
 use mathlib.Core.Bool.{true, false, not, _&&_}
 use mathlib.Core.Logic.{_⊎_, inl, inr}
-use mathlib.Core.Path.{_≡_, refl, sym, ap, _∙_}
-use borrow.Author.Tests.{not-true, not-false}
+use mathlib.Core.Path.{_≡_, refl, sym, ap, _∙_, subst}
+use native.Mathlib.Omega.{arith}
+use borrow.Author.Tests.{eqb-true, not-true, not-false}
 use lib.Dec.{eqb}
 use Rattle.base.specs.Reports.{frameReport, damageReport, connectedReport, failedReport, outsideReport, noReplyReport, downReport, notIdleReport}
 use Rattle.base.specs.Reports.{noReason, closed, windowOver, wrongLow, stopped, idleOver, dropped, restarted}
@@ -19,11 +20,11 @@ use Rattle.events.specs.declared.Kind.the-variants.{Address, WakeUp, Byte, Tick
 use Rattle.events.specs.declared.Event.{Event}
 use Rattle.starts.specs.Starts.{judged, isOver, isLast, onward, slowStart, fastStart}
 use Rattle.talk.specs.Talk.{isFirst, begun, laterReason, isSum, grown, isStopped}
-use Rattle.phases.specs.Phases.{isStarting, isQuiet, isOpen, down, off, starting, connected, holding, damaged, settled, framed}
+use Rattle.phases.specs.Phases.{isDown, isStarting, isQuiet, isOpen, down, off, starting, connected, holding, damaged, settled, framed}
 use Rattle.phases.specs.declared.State.{State}
 use Rattle.phases.specs.declared.State.the-variants.{Down, Starting, Quiet, Held, Damage}
 use Rattle.phases.specs.declared.Phase.{Phase}
-use Rattle.phases.proofs.StateTests.{is-starting, is-quiet, starting-apart, quiet-is, starting-is}
+use Rattle.phases.proofs.StateTests.{is-down, is-starting, is-quiet, starting-apart, down-is, quiet-is, starting-is}
 use Rattle.moves.specs.Moves.{still, makes, lossReason, ended, isSilent, afterSilence, afterP2, afterP3, sinceOrigin, afterWindow, closing, leaving}
 use Rattle.moves.specs.Moves.{isIdle, startingSlow, isGoodLow, startingFast, startByte, reasonAtFirst, firstByte, laterByte, byteIn, afterByte, afterStop}
 use Rattle.moves.specs.declared.Move.{Move}
@@ -60,6 +61,24 @@ pub data Closes (e : Event) : ℕ → Type 0 where
   by-address : e .kind ≡ Address → Closes e restarted
   by-wake-up : e .kind ≡ WakeUp → Closes e restarted
 
+abbrev pub reasonOf : Kind → ℕ
+reasonOf Drop = dropped
+reasonOf Address = restarted
+reasonOf WakeUp = restarted
+reasonOf Byte = noReason
+reasonOf Tick = noReason
+reasonOf Other = noReason
+
+closes-for : {e : Event} {reason : ℕ} → Closes e reason → reason ≡ reasonOf (e .kind)
+closes-for (by-drop k) = sym (ap reasonOf k)
+closes-for (by-address k) = sym (ap reasonOf k)
+closes-for (by-wake-up k) = sym (ap reasonOf k)
+
+drop-of : {e : Event} {reason : ℕ} → Closes e reason → reason ≡ dropped → e .kind ≡ Drop
+drop-of (by-drop k) z = k
+drop-of (by-address k) z = absurd (omega arith)
+drop-of (by-wake-up k) z = absurd (omega arith)
+
 module _ (mark : Micros) (e : Event) (p : Phase) where
   abbrev gap : Micros
   gap = gapOf mark (e .start)
@@ -78,7 +97,7 @@ module _ (mark : Micros) (e : Event) (p : Phase) where
   Unmoved at-p3 = (isQuiet (p .state) && not (isFirst (p .reply)) && isPassed (p .windows .p3max) gap) ≡ false
   Unmoved at-window = (isStarting (p .state) && isOver (p .start) since) ≡ false
   Unmoved at-closing = (isOpen (p .state) ≡ false) × (isStarting (p .state) ≡ false)
-  Unmoved at-leaving = isQuiet (p .state) ≡ false
+  Unmoved at-leaving = (isQuiet (p .state) ≡ false) × ((isDown (p .state) && eqb (reasonOf (e .kind)) dropped) ≡ false)
   Unmoved at-start = ⊥
   Unmoved at-byte = p .state ≡ Damage
   Unmoved at-stop = (isQuiet (p .state) && isStopped (p .request)) ≡ false
@@ -90,19 +109,21 @@ module _ (mark : Micros) (e : Event) (p : Phase) where
     breaks-off : isOpen (p .state) ≡ true → isSilent gap ≡ true → Rule at-silence (ended p)
     waited : p .state ≡ Quiet → isFirst (p .reply) ≡ true → isPassed (p .windows .p2max) gap ≡ true
         → Rule at-p2 (makes noReplyReport noReason (settled p))
-    idled : p .state ≡ Quiet → isFirst (p .reply) ≡ false → isPassed (p .windows .p3max) gap ≡ true → Rule at-p3 (makes downReport idleOver down)
+    idled : p .state ≡ Quiet → isFirst (p .reply) ≡ false → isPassed (p .windows .p3max) gap ≡ true → Rule at-p3 (makes downReport idleOver (down (micros 0)))
     expires : p .state ≡ Starting → isOver (p .start) since ≡ true → Rule at-window (makes failedReport windowOver off)
     -- A, W or D closes
     cuts-off : isOpen (p .state) ≡ true → Rule at-closing (makes damageReport (lossReason p closed) (settled p))
     aborts : p .state ≡ Starting → Rule at-closing (makes failedReport closed off)
     leaves : {reason : ℕ} → Closes e reason → p .state ≡ Quiet → Rule at-leaving (makes downReport reason off)
+    drops : p .state ≡ Down → e .kind ≡ Drop → Rule at-leaving (still off)
     -- a start
-    starts-slow : e .kind ≡ Address → isIdle mark (e .start) ≡ true → Rule at-start (still (starting (micros 0) (slowStart (e .value))))
-    starts-fast : e .kind ≡ WakeUp → isIdle mark (e .start) ≡ true → isGoodLow (e .start) (e .end) ≡ true → Rule at-start (still (starting (e .start) fastStart))
-    hurries : (e .kind ≡ Address) ⊎ (e .kind ≡ WakeUp) → isIdle mark (e .start) ≡ false → Rule at-start (makes notIdleReport noReason down)
-    low : e .kind ≡ WakeUp → isIdle mark (e .start) ≡ true → isGoodLow (e .start) (e .end) ≡ false → Rule at-start (makes failedReport wrongLow off)
+    starts-slow : e .kind ≡ Address → isIdle (p .idle) mark (e .start) ≡ true → Rule at-start (still (starting (micros 0) (slowStart (e .value))))
+    starts-fast : e .kind ≡ WakeUp → isIdle (p .idle) mark (e .start) ≡ true → isGoodLow (e .start) (e .end) ≡ true
+        → Rule at-start (still (starting (e .start) fastStart))
+    hurries : (e .kind ≡ Address) ⊎ (e .kind ≡ WakeUp) → isIdle (p .idle) mark (e .start) ≡ false → Rule at-start (makes notIdleReport noReason (down (p .idle)))
+    low : e .kind ≡ WakeUp → isIdle (p .idle) mark (e .start) ≡ true → isGoodLow (e .start) (e .end) ≡ false → Rule at-start (makes failedReport wrongLow off)
     -- a byte of a link that is down, of an initialization, ..
-    strays : p .state ≡ Down → Rule at-byte (makes outsideReport noReason down)
+    strays : p .state ≡ Down → Rule at-byte (makes outsideReport noReason (down (p .idle)))
     misses : p .state ≡ Starting → eqb verdict noReason ≡ false → Rule at-byte (makes failedReport verdict off)
     connects : p .state ≡ Starting → eqb verdict noReason ≡ true → isLast (p .start .stage) ≡ true
         → Rule at-byte (makes connectedReport noReason (connected (p .start)))
@@ -120,7 +141,7 @@ module _ (mark : Micros) (e : Event) (p : Phase) where
     grows : p .state ≡ Held → eqb (laterReason (p .message) (e .side) (e .value)) noReason ≡ true → isSum (p .message .part) ≡ false
         → Rule at-byte (still (holding p (grown (p .message) (e .value))))
     -- a stop
-    stops : p .state ≡ Quiet → isStopped (p .request) ≡ true → Rule at-stop (makes downReport stopped down)
+    stops : p .state ≡ Quiet → isStopped (p .request) ≡ true → Rule at-stop (makes downReport stopped (down (p .windows .p3min)))
 
   -- ---- time passes
   pub by-silence : Rule at-silence (afterSilence p gap)
@@ -156,18 +177,23 @@ module _ (mark : Micros) (e : Event) (p : Phase) where
 
   pub by-leaving : {reason : ℕ} → Closes e reason → Rule at-leaving (leaving p reason)
   unfolding leaving
-  by-leaving c = by-test (Rule at-leaving) (isQuiet (p .state)) (λ q. leaves c (is-quiet _ q)) rests
+  by-leaving {reason = reason} c =
+      by-test (Rule at-leaving) (isQuiet (p .state)) (λ q. leaves c (is-quiet _ q))
+      (λ q. by-test (Rule at-leaving) (isDown (p .state) && eqb reason dropped)
+      (λ t. let x = and-split _ _ t in drops (is-down _ (x .0)) (drop-of c (eqb-true reason dropped (x .1))))
+      (λ f. rests (q, subst (λ (k : ℕ). (isDown (p .state) && eqb k dropped) ≡ false) (closes-for c) f)))
 
   -- ---- a start
-  pub by-slow : e .kind ≡ Address → Rule at-start (startingSlow (e .value) mark (e .start))
+  pub by-slow : e .kind ≡ Address → Rule at-start (startingSlow (p .idle) (e .value) mark (e .start))
   unfolding startingSlow
-  by-slow k = by-test (Rule at-start) (isIdle mark (e .start)) (starts-slow k) (hurries (inl k))
+  by-slow k = by-test (Rule at-start) (isIdle (p .idle) mark (e .start)) (starts-slow k) (hurries (inl k))
 
-  pub by-fast : e .kind ≡ WakeUp → Rule at-start (startingFast mark (e .start) (e .end))
+  pub by-fast : e .kind ≡ WakeUp → Rule at-start (startingFast (p .idle) mark (e .start) (e .end))
   unfolding startingFast
   by-fast k =
-      by-test (Rule at-start) (not (isIdle mark (e .start))) (λ t. hurries (inr k) (not-true (isIdle mark (e .start)) t))
-      (λ f. let i = not-false (isIdle mark (e .start)) f in by-test (Rule at-start) (isGoodLow (e .start) (e .end)) (starts-fast k i) (low k i))
+      let idle = isIdle (p .idle) mark (e .start) in
+      by-test (Rule at-start) (not idle) (λ t. hurries (inr k) (not-true idle t))
+      (λ f. let i = not-false idle f in by-test (Rule at-start) (isGoodLow (e .start) (e .end)) (starts-fast k i) (low k i))
 
   -- ---- a byte
   by-start : p .state ≡ Starting → Rule at-byte (startByte p (e .side) (e .value) since)
@@ -203,23 +229,15 @@ module _ (mark : Micros) (e : Event) (p : Phase) where
   by-stop = by-test (Rule at-stop) (isQuiet (p .state) && isStopped (p .request)) (λ t. let x = and-split _ _ t in stops (is-quiet _ (x .0)) (x .1)) rests
 
   -- ---- AT EACH MOMENT ONE MOVE: the one that the definitions make, whichever rule it is told by
-  abbrev reasonOf : Kind → ℕ
-  reasonOf Drop = dropped
-  reasonOf Address = restarted
-  reasonOf WakeUp = restarted
-  reasonOf Byte = noReason
-  reasonOf Tick = noReason
-  reasonOf Other = noReason
-
   abbrev startOf : Kind → Move
-  startOf Address = startingSlow (e .value) mark (e .start)
-  startOf WakeUp = startingFast mark (e .start) (e .end)
+  startOf Address = startingSlow (p .idle) (e .value) mark (e .start)
+  startOf WakeUp = startingFast (p .idle) mark (e .start) (e .end)
   startOf Byte = still p
   startOf Tick = still p
   startOf Drop = still p
   startOf Other = still p
 
-  abbrev moveAt : Moment → Move
+  abbrev pub moveAt : Moment → Move
   moveAt at-silence = afterSilence p gap
   moveAt at-p2 = afterP2 p gap
   moveAt at-p3 = afterP3 p gap
@@ -230,11 +248,6 @@ module _ (mark : Micros) (e : Event) (p : Phase) where
   moveAt at-byte = afterByte p (e .side) (e .value) mark (e .start)
   moveAt at-stop = afterStop p
   moveAt at-end = still p
-
-  closes-for : {reason : ℕ} → Closes e reason → reason ≡ reasonOf (e .kind)
-  closes-for (by-drop k) = sym (ap reasonOf k)
-  closes-for (by-address k) = sym (ap reasonOf k)
-  closes-for (by-wake-up k) = sym (ap reasonOf k)
 
   byte-of : (st : State) → p .state ≡ st → byteIn st p (e .side) (e .value) mark (e .start) ≡ moveAt at-byte
   unfolding afterByte
@@ -247,13 +260,13 @@ module _ (mark : Micros) (e : Event) (p : Phase) where
   rests-at at-p3 u = rw u refl
   rests-at at-window u = rw u refl
   rests-at at-closing u = rw (u .0, u .1) refl
-  rests-at at-leaving u = rw u refl
+  rests-at at-leaving u = rw (u .0, u .1) refl
   rests-at at-start u = absurd u
   rests-at at-byte u = byte-of Damage u
   rests-at at-stop u = rw u refl
   rests-at at-end u = absurd u
 
-  is-move : {k : Moment} {m : Move} → Rule k m → m ≡ moveAt k
+  pub is-move : {k : Moment} {m : Move} → Rule k m → m ≡ moveAt k
   unfolding afterSilence afterP2 afterP3 afterWindow closing leaving startingSlow startingFast startByte firstByte laterByte afterStop
   is-move (rests {k = k} u) = rests-at k u
   is-move (breaks-off o s) = rw (o, s) refl
@@ -263,6 +276,7 @@ module _ (mark : Micros) (e : Event) (p : Phase) where
   is-move (cuts-off o) = rw o refl
   is-move (aborts s) = rw (starting-apart (p .state) (starting-is s) .1, starting-is s) refl
   is-move (leaves c q) = ap (λ (r : ℕ). makes downReport r off) (closes-for c) ∙ rw (quiet-is q) refl
+  is-move (drops d k) = rw (down-is d .1, down-is d .0, ap reasonOf k) refl
   is-move (starts-slow k i) = rw (ap startOf k, i) refl
   is-move (starts-fast k i l) = rw (ap startOf k, i, l) refl
   is-move (hurries (inl k) i) = rw (ap startOf k, i) refl

@@ -6,14 +6,14 @@ use mathlib.Core.Bool.{Bool, not, _&&_}
 use lib.Dec.{eqb}
 use Rattle.base.specs.Choice.{if_then_else_}
 use Rattle.base.specs.Reports.{frameReport, damageReport, connectedReport, failedReport, outsideReport, noReplyReport, downReport, notIdleReport}
-use Rattle.base.specs.Reports.{noReason, closed, windowOver, wrongLow, stopped, idleOver}
+use Rattle.base.specs.Reports.{noReason, closed, windowOver, wrongLow, stopped, idleOver, dropped}
 use Rattle.units.specs.Units.{micros, isEarlier, gapOf}
 use Rattle.units.specs.declared.Micros.{Micros}
 use Rattle.timing.specs.Timing.{isPassed}
 use Rattle.events.specs.declared.Side.{Side}
 use Rattle.starts.specs.Starts.{originOf, judged, isOver, isLast, onward, slowStart, fastStart}
 use Rattle.talk.specs.Talk.{isFirst, firstReason, begun, laterReason, endReason, isSum, grown, isStopped}
-use Rattle.phases.specs.Phases.{isStarting, isQuiet, isHeld, isOpen, down, off, starting, connected, holding, damaged, settled, framed}
+use Rattle.phases.specs.Phases.{isDown, isStarting, isQuiet, isHeld, isOpen, down, off, starting, connected, holding, damaged, settled, framed}
 use Rattle.phases.specs.declared.State.{State}
 use Rattle.phases.specs.declared.State.the-variants.{Down, Starting, Quiet, Held, Damage}
 use Rattle.phases.specs.declared.Phase.{Phase}
@@ -52,10 +52,10 @@ unfoldable pub afterP2 : Phase → Micros → Move
 afterP2 p gap =
     if isQuiet (p .state) && isFirst (p .reply) && isPassed (p .windows .p2max) gap then makes noReplyReport noReason (settled p) else still p
 
--- "Then, connected, no first reply awaited, P3 max passed: report 7 reason 2, down."
+-- "Then, connected, no first reply awaited, P3 max passed: report 7 reason 2, down." "after P3 max has run out it is 0" (document 02: the idle time).
 unfoldable pub afterP3 : Phase → Micros → Move
 afterP3 p gap =
-    if isQuiet (p .state) && not (isFirst (p .reply)) && isPassed (p .windows .p3max) gap then makes downReport idleOver down else still p
+    if isQuiet (p .state) && not (isFirst (p .reply)) && isPassed (p .windows .p3max) gap then makes downReport idleOver (down (micros 0)) else still p
 
 -- "In initialization, the present window's end passed: report 4 reason 1, down."
 unfoldable pub sinceOrigin : Phase → Micros → Micros → Micros
@@ -72,29 +72,30 @@ closing p =
     if isOpen (p .state) then makes damageReport (lossReason p closed) (settled p) else
     if isStarting (p .state) then makes failedReport closed off else still p
 
--- "if connected, report 7 (reason 4 for A or W, 3 for D), down": after `closing`, so that a connected link has nothing open
+-- "if connected, report 7 (reason 4 for A or W, 3 for D), down": after `closing`, so that a connected link has nothing open. "a drop (also while down) and a
+-- restart keep 300 ms".
 unfoldable pub leaving : Phase → ℕ → Move
-leaving p reason = if isQuiet (p .state) then makes downReport reason off else still p
+leaving p reason =
+    if isQuiet (p .state) then makes downReport reason off else
+    if isDown (p .state) && eqb reason dropped then still off else still p
 
 -- ---- starts
--- "A or W needs 300 ms from the old mark to its start, else report 8 and down; this is judged before the length of the low."
-abbrev pub idleTime : Micros
-idleTime = micros 300_000
+-- "A or W needs 300 ms from the old mark to its start, else report 8 and down; this is judged before the length of the low." In place of 300 ms document 02 has
+-- the idle time of the link that is down, and "a start answered with report 8 keeps the idle time it was judged by".
+unfoldable pub isIdle : Micros → Micros → Micros → Bool
+isIdle idle mark start = not (isEarlier (gapOf mark start) idle)
 
-unfoldable pub isIdle : Micros → Micros → Bool
-isIdle mark start = not (isEarlier (gapOf mark start) idleTime)
-
-unfoldable pub startingSlow : ℕ → Micros → Micros → Move
-startingSlow address mark start =
-    if isIdle mark start then still (starting (micros 0) (slowStart address)) else makes notIdleReport noReason down
+unfoldable pub startingSlow : Micros → ℕ → Micros → Micros → Move
+startingSlow idle address mark start =
+    if isIdle idle mark start then still (starting (micros 0) (slowStart address)) else makes notIdleReport noReason (down idle)
 
 -- "Low for 24 to 26 ms, else report 4 reason 3 at once."
 unfoldable pub isGoodLow : Micros → Micros → Bool
 isGoodLow fall rise = not (isEarlier (gapOf fall rise) (micros 24_000)) && not (isEarlier (micros 26_000) (gapOf fall rise))
 
-unfoldable pub startingFast : Micros → Micros → Micros → Move
-startingFast mark fall rise =
-    if not (isIdle mark fall) then makes notIdleReport noReason down else
+unfoldable pub startingFast : Micros → Micros → Micros → Micros → Move
+startingFast idle mark fall rise =
+    if not (isIdle idle mark fall) then makes notIdleReport noReason (down idle) else
     if isGoodLow fall rise then still (starting fall fastStart) else makes failedReport wrongLow off
 
 -- ---- a byte
@@ -120,9 +121,9 @@ laterByte p side v =
     if isSum (p .message .part) then makes frameReport noReason (framed p) else
     still (holding p (grown (p .message) v))
 
--- "Down, as a fresh link is. Each byte is report 5."
+-- "Down, as a fresh link is. Each byte is report 5." It leaves the idle time.
 abbrev pub byteIn : State → Phase → Side → ℕ → Micros → Micros → Move
-byteIn Down p side v mark start = makes outsideReport noReason down
+byteIn Down p side v mark start = makes outsideReport noReason (down (p .idle))
 byteIn Starting p side v mark start = startByte p side v (sinceOrigin p mark start)
 byteIn Quiet p side v mark start = still (firstByte p side v (gapOf mark start))
 byteIn Held p side v mark start = laterByte p side v
@@ -131,6 +132,7 @@ byteIn Damage p side v mark start = still p
 unfoldable pub afterByte : Phase → Side → ℕ → Micros → Micros → Move
 afterByte p side v mark start = byteIn (p .state) p side v mark start
 
--- "a unit frame starting C2 after a tester frame starting 82: report 1, then 7 reason 1, down"
+-- "a unit frame starting C2 after a tester frame starting 82: report 1, then 7 reason 1, down". "After a stop answered by the unit the idle time is P3 min as it
+-- was in force".
 unfoldable pub afterStop : Phase → Move
-afterStop p = if isQuiet (p .state) && isStopped (p .request) then makes downReport stopped down else still p
+afterStop p = if isQuiet (p .state) && isStopped (p .request) then makes downReport stopped (down (p .windows .p3min)) else still p

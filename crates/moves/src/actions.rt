@@ -13,33 +13,32 @@ use phases::connect;
 use phases::damage;
 use phases::end_frame;
 use phases::go_down;
+use phases::go_off;
 use phases::hold;
 use phases::is_quiet;
 use units::Micros;
 
-// The idle time before a start, and the least and the greatest low of a wake-up.
-const IDLE_TIME: u64 = 300_000;
-
+// The least and the greatest low of a wake-up.
 const LEAST_LOW: u64 = 24_000;
 
 const GREATEST_LOW: u64 = 26_000;
 
 // Whether the line was idle long enough before a start.
-fn is_idle(mark: Micros, start: Micros) -> bool
-    ensures { λ r. ⌜ r ≡ isIdle mark start ⌝ }
+fn is_idle(idle: Micros, mark: Micros, start: Micros) -> bool
+    ensures { λ r. ⌜ r ≡ isIdle idle mark start ⌝ }
 {
-    let short = units::earlier(units::gap(mark, start), Micros(IDLE_TIME));
+    let short = units::earlier(units::gap(mark, start), idle);
     !short
 }
 
-// An address.
-pub fn starting_slow(address: u8, mark: Micros, start: Micros) -> Move
-    ensures { λ r. ⌜ r ≡ startingSlow address mark start ⌝ }
+// An address, on a link that is down with this idle time.
+pub fn starting_slow(idle: Micros, address: u8, mark: Micros, start: Micros) -> Move
+    ensures { λ r. ⌜ r ≡ startingSlow idle address mark start ⌝ }
 {
-    if is_idle(mark, start) {
+    if is_idle(idle, mark, start) {
         return stay(begin_start(Micros(0), starts::slow(address)));
     }
-    making(base::report::NOT_IDLE, base::reason::NONE, go_down())
+    making(base::report::NOT_IDLE, base::reason::NONE, go_down(idle))
 }
 
 // Whether a wake-up's low is neither short nor long.
@@ -52,18 +51,18 @@ fn is_good_low(fall: Micros, rise: Micros) -> bool
     !short & !long
 }
 
-// A wake-up.
-pub fn starting_fast(mark: Micros, fall: Micros, rise: Micros) -> Move
-    ensures { λ r. ⌜ r ≡ startingFast mark fall rise ⌝ }
+// A wake-up, on a link that is down with this idle time.
+pub fn starting_fast(idle: Micros, mark: Micros, fall: Micros, rise: Micros) -> Move
+    ensures { λ r. ⌜ r ≡ startingFast idle mark fall rise ⌝ }
 {
-    let idle = is_idle(mark, fall);
-    if !idle {
-        return making(base::report::NOT_IDLE, base::reason::NONE, go_down());
+    let long = is_idle(idle, mark, fall);
+    if !long {
+        return making(base::report::NOT_IDLE, base::reason::NONE, go_down(idle));
     }
     if is_good_low(fall, rise) {
         return stay(begin_start(fall, starts::fast()));
     }
-    making(base::report::FAILED, base::reason::WRONG_LOW, go_down())
+    making(base::report::FAILED, base::reason::WRONG_LOW, go_off())
 }
 
 // A byte of an initialization.
@@ -74,7 +73,7 @@ fn start_byte(p: Phase, side: Side, v: u8, gap: Micros) -> Move
     let stage = s.stage;
     let reason = starts::judge(s, side, v, gap);
     if reason != base::reason::NONE {
-        return making(base::report::FAILED, reason, go_down());
+        return making(base::report::FAILED, reason, go_off());
     }
     if starts::is_last(stage) {
         return making(base::report::CONNECTED, base::reason::NONE, connect(s));
@@ -125,7 +124,7 @@ pub fn after_byte(p: Phase, side: Side, v: u8, mark: Micros, start: Micros) -> M
 {
     let state = p.state;
     match state {
-        State::Down => making(base::report::OUTSIDE, base::reason::NONE, go_down()),
+        State::Down => making(base::report::OUTSIDE, base::reason::NONE, go_down(p.idle)),
         State::Starting => start_byte(p, side, v, since_origin(p, mark, start)),
         State::Quiet => stay(first_byte(p, side, v, units::gap(mark, start))),
         State::Held => later_byte(p, side, v),
@@ -139,9 +138,10 @@ pub fn after_stop(p: Phase) -> Move
 {
     let state = p.state;
     let request = p.request;
+    let w = p.windows;
     let stopped = is_quiet(state) & talk::is_stopped(request);
     if stopped {
-        return making(base::report::DOWN, base::reason::STOPPED, go_down());
+        return making(base::report::DOWN, base::reason::STOPPED, go_down(w.p3min));
     }
     stay(p)
 }

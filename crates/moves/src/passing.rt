@@ -5,6 +5,8 @@ ghost use Rattle.moves.specs.Moves.{closing, leaving};
 use crate::Move;
 use phases::Phase;
 use phases::go_down;
+use phases::go_off;
+use phases::is_down;
 use phases::is_held;
 use phases::is_open;
 use phases::is_quiet;
@@ -96,7 +98,11 @@ pub fn after_p3(p: Phase, gap: Micros) -> Move
     let first = talk::is_first(reply);
     let over = is_quiet(state) & !first & timing::passed(w.p3max, gap);
     if over {
-        return making(base::report::DOWN, base::reason::IDLE_OVER, go_down());
+        return making(
+            base::report::DOWN,
+            base::reason::IDLE_OVER,
+            go_down(Micros(0)),
+        );
     }
     stay(p)
 }
@@ -118,7 +124,7 @@ pub fn after_window(p: Phase, mark: Micros, time: Micros) -> Move
     let s = p.start;
     let over = is_starting(state) & starts::is_past(s, since_origin(p, mark, time));
     if over {
-        return making(base::report::FAILED, base::reason::WINDOW_OVER, go_down());
+        return making(base::report::FAILED, base::reason::WINDOW_OVER, go_off());
     }
     stay(p)
 }
@@ -136,18 +142,22 @@ pub fn close_open(p: Phase) -> Move
         );
     }
     if is_starting(state) {
-        return making(base::report::FAILED, base::reason::CLOSED, go_down());
+        return making(base::report::FAILED, base::reason::CLOSED, go_off());
     }
     stay(p)
 }
 
-// A connected link with nothing open goes down.
+// A connected link with nothing open goes down, and a drop finds one that is down.
 pub fn leave(p: Phase, reason: u8) -> Move
     ensures { λ r. ⌜ r ≡ leaving p reason ⌝ }
 {
     let state = p.state;
     if is_quiet(state) {
-        return making(base::report::DOWN, reason, go_down());
+        return making(base::report::DOWN, reason, go_off());
+    }
+    let again = is_down(state) & (reason == base::reason::DROPPED);
+    if again {
+        return stay(go_off());
     }
     stay(p)
 }

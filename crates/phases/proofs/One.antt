@@ -8,7 +8,10 @@ use Rattle.units.specs.declared.Micros.{Micros}
 use Rattle.phases.specs.declared.Phase.{Phase}
 use Rattle.starts.specs.declared.Start.{Start}
 use Rattle.phases.specs.declared.State.{State}
-use Rattle.phases.specs.Phases.{isStarting, isQuiet, isHeld, isOpen, down, starting, connected, holding, damaged, settled, framed}
+use Rattle.phases.specs.Phases.{isDown, isStarting, isQuiet, isHeld, isOpen, down, off, starting, connected, holding, damaged, settled, framed}
+
+pub is-down : (state : State) → Only (λ (r : Bool). r ≡ isDown state)
+is-down state = only (isDown state)
 
 pub is-starting : (state : State) → Only (λ (r : Bool). r ≡ isStarting state)
 is-starting state = only (isStarting state)
@@ -22,8 +25,11 @@ is-held state = only (isHeld state)
 pub is-open : (state : State) → Only (λ (r : Bool). r ≡ isOpen state)
 is-open state = only (isOpen state)
 
-pub go-down : Only (λ (r : Phase). r ≡ down)
-go-down = only down
+pub go-down : (idle : Micros) → Only (λ (r : Phase). r ≡ down idle)
+go-down idle = only (down idle)
+
+pub go-off : Only (λ (r : Phase). r ≡ off)
+go-off = only off
 
 pub begin-start : (fall : Micros) (start : Start) → Only (λ (r : Phase). r ≡ starting fall start)
 begin-start fall start = only (starting fall start)

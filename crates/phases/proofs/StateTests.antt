@@ -3,11 +3,19 @@
 -- Assumes nothing.
 use mathlib.Core.Bool.{true, false, false≢true}
 use mathlib.Core.Path.{_≡_, refl, sym, ap, _∙_}
-use Rattle.phases.specs.Phases.{isStarting, isQuiet, isHeld, isOpen, isConnected}
+use Rattle.phases.specs.Phases.{isDown, isStarting, isQuiet, isHeld, isOpen, isConnected}
 use Rattle.phases.specs.declared.State.{State}
 use Rattle.phases.specs.declared.State.the-variants.{Down, Starting, Quiet, Held, Damage}
 
 -- the state that a test names
+pub is-down : (st : State) → isDown st ≡ true → st ≡ Down
+unfolding isDown
+is-down Down t = refl
+is-down Starting t = absurd (false≢true t)
+is-down Quiet t = absurd (false≢true t)
+is-down Held t = absurd (false≢true t)
+is-down Damage t = absurd (false≢true t)
+
 pub is-starting : (st : State) → isStarting st ≡ true → st ≡ Starting
 unfolding isStarting
 is-starting Down t = absurd (false≢true t)
@@ -32,13 +40,13 @@ is-held Quiet t = absurd (false≢true t)
 is-held Held t = refl
 is-held Damage t = absurd (false≢true t)
 
-pub is-down : (st : State) → isConnected st ≡ false → isStarting st ≡ false → st ≡ Down
+pub else-down : (st : State) → isConnected st ≡ false → isStarting st ≡ false → st ≡ Down
 unfolding isConnected isStarting
-is-down Down c s = refl
-is-down Starting c s = absurd (false≢true (sym s))
-is-down Quiet c s = absurd (false≢true (sym c))
-is-down Held c s = absurd (false≢true (sym c))
-is-down Damage c s = absurd (false≢true (sym c))
+else-down Down c s = refl
+else-down Starting c s = absurd (false≢true (sym s))
+else-down Quiet c s = absurd (false≢true (sym c))
+else-down Held c s = absurd (false≢true (sym c))
+else-down Damage c s = absurd (false≢true (sym c))
 
 -- connected: with something open, or with nothing
 pub open-connected : (st : State) → isOpen st ≡ true → isConnected st ≡ true
@@ -110,6 +118,14 @@ starting-apart Held s = absurd (false≢true s)
 starting-apart Damage s = absurd (false≢true s)
 
 -- the tests of a state by name
+pub down-is : {st : State} → st ≡ Down → (isDown st ≡ true) × (isQuiet st ≡ false)
+unfolding isDown isQuiet
+down-is d = (ap isDown d, ap isQuiet d)
+
+pub down-unconnected : {st : State} → st ≡ Down → isConnected st ≡ false
+unfolding isConnected
+down-unconnected d = ap isConnected d
+
 pub quiet-is : {st : State} → st ≡ Quiet → isQuiet st ≡ true
 unfolding isQuiet
 quiet-is q = ap isQuiet q

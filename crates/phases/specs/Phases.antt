@@ -7,7 +7,7 @@ use Rattle.base.specs.Choice.{if_then_else_}
 use Rattle.base.specs.Reports.{noReason}
 use Rattle.units.specs.Units.{micros}
 use Rattle.units.specs.declared.Micros.{Micros}
-use Rattle.timing.specs.Timing.{untilTime, setOf}
+use Rattle.timing.specs.Timing.{idleAtPowerOn, untilTime, setOf}
 use Rattle.timing.specs.declared.Windows.{Windows}
 use Rattle.events.specs.Events.{isTester}
 use Rattle.events.specs.declared.Side.the-variants.{Nobody}
@@ -25,6 +25,13 @@ use Rattle.phases.specs.declared.State.the-variants.{Down, Starting, Qui
 use Rattle.phases.specs.declared.Phase.{Phase}
 
 -- Down; in an initialization; connected with nothing open, with a message held, with damage being skipped. "Only a connected link holds a message".
+unfoldable pub isDown : State → Bool
+isDown Down = true
+isDown Starting = false
+isDown Quiet = false
+isDown Held = false
+isDown Damage = false
+
 unfoldable pub isStarting : State → Bool
 isStarting Down = false
 isStarting Starting = true
@@ -85,10 +92,11 @@ noWindows = record {
   p4min = micros 0;
 }
 
-abbrev pub unconnected : State → Micros → Start → Phase
-unconnected state fall start = record {
+abbrev pub unconnected : State → Micros → Micros → Start → Phase
+unconnected state idle fall start = record {
   windows = noWindows;
   message = noMessage;
+  idle = idle;
   fall = fall;
   asked = 0;
   state = state;
@@ -97,17 +105,17 @@ unconnected state fall start = record {
   start = start;
 }
 
--- "Down, as a fresh link is."
-unfoldable pub down : Phase
-down = unconnected Down (micros 0) noStart
+-- "Down, as a fresh link is", with the idle time that the next address or wake-up must keep (document 02, "One")
+unfoldable pub down : Micros → Phase
+down idle = unconnected Down idle (micros 0) noStart
 
--- down by a failed initialization, a drop or a restart, as a fresh link is: a start from there is judged as a first one
+-- "a fresh link, a failed initialization, a drop (also while down) and a restart keep 300 ms"
 abbrev pub off : Phase
-off = down
+off = down idleAtPowerOn
 
 -- an initialization; a fast one has the fall of its wake-up
 unfoldable pub starting : Micros → Start → Phase
-starting fall start = unconnected Starting fall start
+starting fall start = unconnected Starting (micros 0) fall start
 
 -- ---- connected
 -- "Timing starts at the set KB1 names." No reply is expected yet.
@@ -115,6 +123,7 @@ unfoldable pub connected : Start → Phase
 connected start = record {
   windows = setOf (start .pair);
   message = noMessage;
+  idle = micros 0;
   fall = micros 0;
   asked = 0;
   state = Quiet;
@@ -128,6 +137,7 @@ unfoldable pub talking : Phase → State → Reply → Message → Phase
 talking p state reply message = record {
   windows = p .windows;
   message = message;
+  idle = p .idle;
   fall = p .fall;
   asked = p .asked;
   state = state;
@@ -166,6 +176,7 @@ unfoldable pub timed : Phase → Windows → ℕ → Request → Phase
 timed p windows seven request = record {
   windows = windows;
   message = p .message;
+  idle = p .idle;
   fall = p .fall;
   asked = seven;
   state = p .state;

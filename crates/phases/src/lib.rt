@@ -7,7 +7,9 @@ pub use states::connect;
 pub use states::damage;
 pub use states::end_frame;
 pub use states::go_down;
+pub use states::go_off;
 pub use states::hold;
+pub use states::is_down;
 pub use states::is_held;
 pub use states::is_open;
 pub use states::is_quiet;
@@ -34,6 +36,8 @@ pub enum State {
 pub struct Phase {
     pub windows: Windows,
     pub message: Message,
+    // how long the line must be idle before the next start, while the link is down
+    pub idle: Micros,
     pub fall: Micros,
     // the first seven data bytes of the latest tester frame
     pub asked: u64,

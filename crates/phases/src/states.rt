@@ -1,6 +1,6 @@
 // The states by name, and the phases that a link moves to.
 ghost use mathlib.Core.Path.{_≡_};
-ghost use Rattle.phases.specs.Phases.{isStarting, isQuiet, isHeld, isOpen, noMessage, noWindows, unconnected, down, starting, connected};
+ghost use Rattle.phases.specs.Phases.{isDown, isStarting, isQuiet, isHeld, isOpen, noMessage, noWindows, unconnected, down, off, starting, connected};
 ghost use Rattle.phases.specs.Phases.{talking, holding, withWhy, damaged, settled, timed, asked, answered, framed};
 use crate::Phase;
 use crate::State;
@@ -12,6 +12,19 @@ use talk::Reply;
 use talk::Request;
 use timing::Windows;
 use units::Micros;
+
+// Whether a link is down.
+pub fn is_down(state: State) -> bool
+    ensures { λ r. ⌜ r ≡ isDown state ⌝ }
+{
+    match state {
+        State::Down => true,
+        State::Starting => false,
+        State::Quiet => false,
+        State::Held => false,
+        State::Damage => false,
+    }
+}
 
 // Whether a link is in an initialization.
 pub fn is_starting(state: State) -> bool
@@ -96,12 +109,13 @@ fn no_windows() -> Windows
 }
 
 // A link that is not connected.
-fn unconnected_at(state: State, fall: Micros, start: Start) -> Phase
-    ensures { λ r. ⌜ r ≡ unconnected state fall start ⌝ }
+fn unconnected_at(state: State, idle: Micros, fall: Micros, start: Start) -> Phase
+    ensures { λ r. ⌜ r ≡ unconnected state idle fall start ⌝ }
 {
     Phase {
         windows: no_windows(),
         message: no_message(),
+        idle: idle,
         fall: fall,
         asked: 0,
         state: state,
@@ -111,18 +125,25 @@ fn unconnected_at(state: State, fall: Micros, start: Start) -> Phase
     }
 }
 
-// Down, as a fresh link is.
-pub fn go_down() -> Phase
-    ensures { λ r. ⌜ r ≡ down ⌝ }
+// Down, with the idle time before the next start.
+pub fn go_down(idle: Micros) -> Phase
+    ensures { λ r. ⌜ r ≡ down idle ⌝ }
 {
-    unconnected_at(State::Down, Micros(0), starts::none())
+    unconnected_at(State::Down, idle, Micros(0), starts::none())
+}
+
+// Down, as a fresh link is.
+pub fn go_off() -> Phase
+    ensures { λ r. ⌜ r ≡ off ⌝ }
+{
+    go_down(Micros(timing::IDLE_AT_POWER_ON))
 }
 
 // In an initialization.
 pub fn begin_start(fall: Micros, start: Start) -> Phase
     ensures { λ r. ⌜ r ≡ starting fall start ⌝ }
 {
-    unconnected_at(State::Starting, fall, start)
+    unconnected_at(State::Starting, Micros(0), fall, start)
 }
 
 // Just connected.
@@ -132,6 +153,7 @@ pub fn connect(start: Start) -> Phase
     Phase {
         windows: timing::set_of(start.pair),
         message: no_message(),
+        idle: Micros(0),
         fall: Micros(0),
         asked: 0,
         state: State::Quiet,
@@ -148,10 +170,12 @@ fn talk_on(p: Phase, state: State, reply: Reply, message: Message) -> Phase
     let w = p.windows;
     let request = p.request;
     let start = p.start;
+    let idle = p.idle;
     let fall = p.fall;
     Phase {
         windows: w,
         message: message,
+        idle: idle,
         fall: fall,
         asked: p.asked,
         state: state,
@@ -195,10 +219,12 @@ fn with_timing(p: Phase, windows: Windows, seven: u64, request: Request) -> Phas
     let state = p.state;
     let reply = p.reply;
     let start = p.start;
+    let idle = p.idle;
     let fall = p.fall;
     Phase {
         windows: windows,
         message: m,
+        idle: idle,
         fall: fall,
         asked: seven,
         state: state,

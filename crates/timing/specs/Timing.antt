@@ -53,6 +53,10 @@ extendedSet = record {
   p4min = micros 5_000;
 }
 
+-- Before an address or wake-up the line is idle, from the mark on. How long goes by how the link went down (phases/specs/Phases.antt); at power-on it is 300 ms.
+abbrev pub idleAtPowerOn : Micros
+idleAtPowerOn = micros 300_000
+
 -- the set that key bytes name: KB1's
 unfoldable pub setOf : Pair → Windows
 setOf pair = if isExtended (pair .kb1) then extendedSet else normalSet

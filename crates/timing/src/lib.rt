@@ -44,6 +44,9 @@ pub struct Encoded {
     pub codes: Codes,
 }
 
+// How long the line is idle before the first address or wake-up, in microseconds.
+pub const IDLE_AT_POWER_ON: u64 = 300_000;
+
 // The greatest number of microseconds, which stands for no limit.
 const ENDLESS: u64 = 18_446_744_073_709_551_615;
 

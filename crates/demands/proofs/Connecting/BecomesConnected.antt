@@ -16,10 +16,11 @@ use Rattle.link.specs.Handling.{handled, linkAfter}
 use Rattle.link.specs.declared.Link.{Link}
 use Rattle.demands.specs.Logs.{Log, _▷_, numberAfter, takenOf}
 use Rattle.demands.specs.Histories.{after}
-use Rattle.demands.specs.Connecting.{Connects}
+use Rattle.demands.specs.Connecting.{ConnectsBy}
 use Rattle.demands.proofs.Moves.Entering.{Completes}
 use Rattle.demands.proofs.Moves.Causes.{rises}
 use Rattle.demands.proofs.Moves.Completing.{completes-run}
+use Rattle.demands.proofs.Connecting.Running.{ownUntil}
 use Rattle.demands.proofs.Connecting.ConnectsExactly.{link-taken, link-refused, completes-connects}
 use Rattle.demands.specs.Ours.{ours}
 
@@ -42,18 +43,18 @@ module _ (es : Log) (e : Event) where
   phase-taken q = ap (λ (l : Link). l .phase .state) (link-taken es e q)
 
   becomes-by : (b : Bool) → eqb (numberAfter (takenOf es) e) taken ≡ b → isConnected (after ours es .link .phase .state) ≡ false
-      → isConnected (after ours (es ▷ e) .link .phase .state) ≡ true → (numberAfter (takenOf es) e ≡ taken) × Connects (takenOf es) e
+      → isConnected (after ours (es ▷ e) .link .phase .state) ≡ true → (numberAfter (takenOf es) e ≡ taken) × ConnectsBy ownUntil (takenOf es) e
   becomes-by true q c h =
       let t = eqb-true _ _ q in
       (t, completes-connects es e t .0 (becomes-completes (after ours es .link) e c (sym (ap isConnected (phase-taken t)) ∙ h)))
   becomes-by false q c h =
       absurd (false≢true (sym c ∙ (sym (ap (λ (l : Link). isConnected (l .phase .state)) (link-refused es e (eqb-false _ _ q))) ∙ h)))
 
--- THE THEOREM
-pub becomes-connected-exactly : (es : Log) (e : Event)
+-- THE THEOREM, by our own link's idle time
+pub own-becomes-exactly : (es : Log) (e : Event)
     → ((isConnected (after ours es .link .phase .state) ≡ false) × (isConnected (after ours (es ▷ e) .link .phase .state) ≡ true))
-    ↔ ((numberAfter (takenOf es) e ≡ taken) × Connects (takenOf es) e)
-becomes-connected-exactly es e = (
+    ↔ ((numberAfter (takenOf es) e ≡ taken) × ConnectsBy ownUntil (takenOf es) e)
+own-becomes-exactly es e = (
   (λ h. becomes-by es e (eqb (numberAfter (takenOf es) e) taken) refl (h .0) (h .1)),
   (λ c. let b = completes-becomes (after ours es .link) e (completes-connects es e (c .0) .1 (c .1)) in
       (b .0, ap isConnected (phase-taken es e (c .0)) ∙ b .1)),

@@ -27,16 +27,16 @@ use Rattle.reports.specs.declared.Run.{Run}
 use Rattle.link.specs.Handling.{hearing, begun, handled, linkAfter}
 use Rattle.link.specs.Stepping.{takenBy}
 use Rattle.link.specs.declared.Link.{Link}
-use Rattle.demands.specs.Logs.{Log, none, _▷_, markOf, heardOf, numberAfter, takenOf}
+use Rattle.demands.specs.Logs.{Log, none, _▷_, heardOf, numberAfter, takenOf}
 use Rattle.demands.specs.Histories.{reportsTo, after}
-use Rattle.demands.specs.Connecting.{Since, here, tick, byte, Connects, Connected}
+use Rattle.demands.specs.Connecting.{Since, here, tick, byte, ConnectsBy, Connected}
 use Rattle.demands.proofs.Histories.Holding.{Holds}
 use Rattle.demands.proofs.Histories.Tiling.{start-none, sum-is}
 use Rattle.demands.proofs.Histories.Invariant.{timely, kept-of}
 use Rattle.demands.proofs.Histories.Basics.{basics, answer-taken}
 use Rattle.demands.proofs.Moves.Entering.{Open}
 use Rattle.demands.proofs.Moves.Completing.{connecting, completes-run}
-use Rattle.demands.proofs.Connecting.Running.{startOn, phaseOn, lastEnd, Starts, Runs, runs-starts, Behind, Inv, open-early, back-start, back-open, back-tick}
+use Rattle.demands.proofs.Connecting.Running.{startOn, phaseOn, lastEnd, Starts, ownUntil, Runs, runs-starts, Behind, Inv, open-early, back-start, back-open, back-tick}
 use Rattle.demands.proofs.Connecting.Running.{back-byte, no-since, completes-of}
 use Rattle.demands.proofs.Connecting.ConnectsExactly.{done-of, ended-by, behind, link-taken, link-refused, log-taken, log-refused, inv-of}
 use Rattle.demands.specs.Beside.{ConnectedLink}
@@ -44,18 +44,18 @@ use Rattle.demands.specs.Ours.{ours, ourAnswer}
 
 -- ---- THE INVARIANT: while the link is in the initialization that a log ends in, the bytes named are those before its start
 abbrev Told : Link → Log → Type 0
-Told l log = (a : Event) (before bs : Log) → Since a before log bs → Runs (markOf before) a bs → Open (phaseOn a bs) (lastEnd a bs) (l .clock)
+Told l log = (a : Event) (before bs : Log) → Since a before log bs → Runs (ownUntil before a) a bs → Open (phaseOn a bs) (lastEnd a bs) (l .clock)
     → l .named ≡ length (heardOf before)
 
 module _ (l : Link) (log : Log) (e : Event) (t : Behind l log e) (inv : Inv l log) (heard : l .heard ≡ length (heardOf log))
     (holds : Holds (l .phase .state) (l .named) (l .heard)) where
   -- at a start, what was open is closed, and nothing is held
-  told-start : Starts (e .kind) (markOf log) e → handled l e .named ≡ length (heardOf log)
+  told-start : Starts (e .kind) (ownUntil log e) e → handled l e .named ≡ length (heardOf log)
   told-start s = ap (λ (x : Run). x .named) (back-start l log e t inv s) ∙ start-none l e holds ∙ heard
 
 told-by : (l : Link) (log : Log) (e : Event) → Behind l log e → Inv l log → l .heard ≡ length (heardOf log)
     → Holds (l .phase .state) (l .named) (l .heard)
-    → Told l log → (a : Event) (before bs : Log) → Since a before (log ▷ e) bs → Runs (markOf before) a bs
+    → Told l log → (a : Event) (before bs : Log) → Since a before (log ▷ e) bs → Runs (ownUntil before a) a bs
     → Open (phaseOn a bs) (lastEnd a bs) (e .end) → handled l e .named ≡ length (heardOf before)
 unfolding begun
 told-by l log e t inv h g n a before bs here u o = told-start l log e t inv h g u
@@ -88,7 +88,7 @@ told-of none = λ a before bs s. absurd (no-since a before bs s)
 told-of (es ▷ e) = told-next (eqb (numberAfter (takenOf es) e) taken) es e refl (told-of es)
 
 -- ---- the bytes heard since the start
-starts-apart : (k : Kind) (m : Micros) (a : Event) → Starts k m a → isByte k ≡ false
+starts-apart : (k : Kind) (m : ℕ) (a : Event) → Starts k m a → isByte k ≡ false
 unfolding isByte
 starts-apart Address m a s = refl
 starts-apart WakeUp m a s = refl
@@ -115,10 +115,10 @@ unfolding told begun reportOf appended listed namesBytes
 run-reports l e s = refl
 
 handled-names : (l : Link) (log : Log) (e : Event) → Behind l log e → Inv l log → l .heard ≡ length (heardOf log) → l .heard < 4_000_000_000
-    → Told l log → (c : Connects log e) → ConnectedLink log e c (takenBy l e)
+    → Told l log → (c : ConnectsBy ownUntil log e) → ConnectedLink log e c (takenBy l e)
 unfolding takenBy linkAfter told connected starting
 handled-names l log e t inv h few n c =
-    let m = markOf (c .before) in
+    let m = ownUntil (c .before) (c .start) in
     let d = done-of m (c .start) (c .pair) (c .bytes) e (c .idle) (c .good) in
     let f = completes-of l log e t inv (ended-by log e c) in
     let run = completes-run l e (f .0) in
@@ -142,16 +142,16 @@ handled-names l log e t inv h few n c =
       request = ap (λ (p : Phase). p .request) phase;
     }
 
--- THE THEOREM, and its half that anyone can see
-pub connects-link : (es : Log) (e : Event) → numberAfter (takenOf es) e ≡ taken → (c : Connects (takenOf es) e)
+-- THE THEOREM, and its half that anyone can see, by our own link's idle time
+pub own-connects-link : (es : Log) (e : Event) → numberAfter (takenOf es) e ≡ taken → (c : ConnectsBy ownUntil (takenOf es) e)
     → ConnectedLink (takenOf es) e c (ourAnswer es e)
-connects-link es e q c =
+own-connects-link es e q c =
     let l = after ours es .link in
     let b = basics es in
     let few : l .heard < 4_000_000_000 = omega (arith, b .heard, b .few, timely (takenOf es) e q .room) in
     subst (ConnectedLink (takenOf es) e c) (sym (answer-taken es e q))
     (handled-names l (takenOf es) e (behind es e q) (inv-of es) (b .heard) few (told-of es) c)
 
-pub connects-names : (es : Log) (e : Event) → numberAfter (takenOf es) e ≡ taken → (c : Connects (takenOf es) e)
+pub own-connects-names : (es : Log) (e : Event) → numberAfter (takenOf es) e ≡ taken → (c : ConnectsBy ownUntil (takenOf es) e)
     → Connected (takenOf es) e c (reportsTo ours es e)
-connects-names es e q c = connects-link es e q c .answer
+own-connects-names es e q c = own-connects-link es e q c .answer

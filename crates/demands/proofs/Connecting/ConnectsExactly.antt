@@ -1,6 +1,7 @@
--- DEMAND 2: after any events from a fresh link, an event is answered with report 3 exactly if it is taken and completes a good initialization: a
--- condition on the events taken before it, and on no link.
+-- After any events from a fresh link, an event is answered with report 3 exactly if it is taken and completes a good initialization. What is asked of the idle
+-- time before its start goes by our own link here (`ownUntil`); that this is what the history asks, and so demand 2, is in IdleTimes/.
 -- Assumes nothing.
+use Prim.Native.Nat.{ℕ, _+_, _≤_}
 use mathlib.Core.Bool.{Bool, true, false, false≢true}
 use mathlib.Core.Logic.{_↔_, _⊎_, inl, inr}
 use mathlib.Core.Path.{_≡_, _∙_, refl, sym, ap}
@@ -22,29 +23,29 @@ use Rattle.link.specs.declared.Link.{Link}
 use Rattle.link.specs.declared.Answer.{Answer}
 use Rattle.starts.specs.declared.Start.{Start}
 use Rattle.demands.specs.Logs.{Log, none, _▷_, markOf, numberAfter, takenOf}
-use Rattle.demands.specs.Histories.{after, reportsTo, isAmong, Says}
+use Rattle.demands.specs.Histories.{Host, after, reportsTo, isAmong, Says}
 use Rattle.demands.specs.Starts.{SlowStart, FastStart}
-use Rattle.demands.specs.Connecting.{Connects}
+use Rattle.demands.specs.Connecting.{ConnectsBy}
 use Rattle.demands.proofs.Numbers.Numbering.{log-numbered}
 use Rattle.demands.proofs.Histories.Invariant.{timely}
 use Rattle.demands.proofs.Histories.Basics.{basics, answer-taken, answer-refused}
-use Rattle.demands.proofs.Moves.Entering.{Completes}
+use Rattle.demands.proofs.Histories.TakenOnly.{ours-passes, taken-same}
+use Rattle.demands.proofs.Moves.Entering.{Completes, judging}
 use Rattle.demands.proofs.Moves.Completing.{says-completes, completes-says}
-use Rattle.demands.proofs.Connecting.Running.{startOn, Starts, Done, runs-starts, Behind, Inv, inv-on, inv-fresh, Ends, ends-of, completes-of}
-use Rattle.demands.proofs.Connecting.Waking.{IdleSince, runs-idle}
+use Rattle.demands.proofs.Connecting.Running.{startOn, Starts, ownUntil, Done, runs-starts, runs-idle, Behind, Inv, inv-on, inv-fresh, Ends, ends-of, completes-of}
 use Rattle.demands.proofs.Connecting.SlowStart.{slow-done, done-slow}
 use Rattle.demands.proofs.Connecting.FastStart.{fast-done, done-fast}
 use Rattle.demands.specs.Ours.{ours}
 
 -- ---- an initialization that ends on the log is a good one, and the other way round
 module _ (log : Log) (e : Event) (x : Ends log e) where
-  abbrev m : Micros
-  m = markOf (x .before)
+  abbrev m : ℕ
+  m = ownUntil (x .before) (x .start)
 
   abbrev made : Start
   made = startOn (x .start) (x .bytes)
 
-  connects-with : SlowStart (x .start) (made .pair) (x .bytes ▷ e) ⊎ FastStart (x .start) (made .pair) (x .bytes ▷ e) → Connects log e
+  connects-with : SlowStart (x .start) (made .pair) (x .bytes ▷ e) ⊎ FastStart (x .start) (made .pair) (x .bytes ▷ e) → ConnectsBy ownUntil log e
   connects-with g = record {
     start = x .start;
     before = x .before;
@@ -56,7 +57,7 @@ module _ (log : Log) (e : Event) (x : Ends log e) where
     good = g;
   }
 
-  connects-by : (k : Kind) → x .start .kind ≡ k → Starts k m (x .start) → Connects log e
+  connects-by : (k : Kind) → x .start .kind ≡ k → Starts k m (x .start) → ConnectsBy ownUntil log e
   connects-by Address k s = connects-with (inl (slow-done m (x .start) (x .bytes) e k (x .done)))
   connects-by WakeUp k s = connects-with (inr (fast-done m (x .start) (x .bytes) e k (x .done)))
   connects-by Byte k s = absurd s
@@ -64,32 +65,39 @@ module _ (log : Log) (e : Event) (x : Ends log e) where
   connects-by Drop k s = absurd s
   connects-by Other k s = absurd s
 
-  connects-of : Connects log e
+  connects-of : ConnectsBy ownUntil log e
   connects-of = connects-by (x .start .kind) refl (runs-starts m (x .start) (x .bytes) (x .done .0))
 
-pub done-of : (m : Micros) (a : Event) (pair : Pair) (bs : Log) (e : Event) → IdleSince m a
+pub done-of : (m : ℕ) (a : Event) (pair : Pair) (bs : Log) (e : Event) → m ≤ a .start .0
     → SlowStart a pair (bs ▷ e) ⊎ FastStart a pair (bs ▷ e)
     → Done m a bs e × (startOn a bs .pair ≡ pair) × (isGood pair ≡ true)
 done-of m a pair bs e i (inl s) = done-slow m a pair bs e i s
 done-of m a pair bs e i (inr s) = done-fast m a pair bs e i s
 
-abbrev pub ended-by : (log : Log) (e : Event) → Connects log e → Ends log e
+abbrev pub ended-by : (log : Log) (e : Event) → ConnectsBy ownUntil log e → Ends log e
 ended-by log e c = record {
   start = c .start;
   before = c .before;
   bytes = c .bytes;
   since = c .since;
-  done = done-of (markOf (c .before)) (c .start) (c .pair) (c .bytes) e (c .idle) (c .good) .0;
+  done = done-of (ownUntil (c .before) (c .start)) (c .start) (c .pair) (c .bytes) e (c .idle) (c .good) .0;
   last = c .last;
 }
 
 -- ---- after events
+-- refused events change nothing of what a start finds
+own-until : (es : Log) (e : Event) → ownUntil (takenOf es) e ≡ after ours es .link .mark .0 + judging (after ours es .link) e .idle .0
+own-until es e =
+    let l = ap (λ (h : Host Link). judging (h .link) e .idle .0) (taken-same ours ours-passes es) in
+    omega (arith, l, ap (λ (x : Micros). x .0) (basics es .mark))
+
 pub behind : (es : Log) (e : Event) → numberAfter (takenOf es) e ≡ taken → Behind (after ours es .link) (takenOf es) e
 behind es e q =
     let b = basics es in
     let t = timely (takenOf es) e q in
     record {
       mark = b .mark;
+      own = own-until es e;
       order = omega (arith, ap (λ (x : Micros). x .0) (b .mark), ap (λ (x : Micros). x .0) (b .clock), b .order);
       later = omega (arith, ap (λ (x : Micros). x .0) (b .clock), t .after);
       ordered = t .forward;
@@ -129,7 +137,7 @@ inv-of none = inv-fresh
 inv-of (es ▷ e) = inv-by es e (eqb (numberAfter (takenOf es) e) taken) refl (inv-of es)
 
 -- an event that is taken completes the link's initialization exactly if it completes one on the events taken
-pub completes-connects : (es : Log) (e : Event) → numberAfter (takenOf es) e ≡ taken → Completes (after ours es .link) e ↔ Connects (takenOf es) e
+pub completes-connects : (es : Log) (e : Event) → numberAfter (takenOf es) e ≡ taken → Completes (after ours es .link) e ↔ ConnectsBy ownUntil (takenOf es) e
 completes-connects es e q =
     let b = behind es e q in (
       (λ c. connects-of (takenOf es) e (ends-of (after ours es .link) (takenOf es) e b (inv-of es) c)),
@@ -147,16 +155,16 @@ unfolding refusedBy listed isAmong
 refused-none es e q = ap (λ (a : Answer). isAmong connectedReport (listed (a .reports))) (answer-refused es e q)
 
 forward-by : (b : Bool) (es : Log) (e : Event) → eqb (numberAfter (takenOf es) e) taken ≡ b → Says connectedReport (reportsTo ours es e)
-    → (numberAfter (takenOf es) e ≡ taken) × Connects (takenOf es) e
+    → (numberAfter (takenOf es) e ≡ taken) × ConnectsBy ownUntil (takenOf es) e
 forward-by true es e q s =
     let t = eqb-true _ _ q in
     (t, completes-connects es e t .0 (says-completes (after ours es .link) e (sym (ap (isAmong connectedReport) (reports-taken es e t)) ∙ s)))
 forward-by false es e q s = absurd (false≢true (sym (refused-none es e (eqb-false _ _ q)) ∙ s))
 
--- THE THEOREM
-pub connects-exactly : (es : Log) (e : Event)
-    → Says connectedReport (reportsTo ours es e) ↔ ((numberAfter (takenOf es) e ≡ taken) × Connects (takenOf es) e)
-connects-exactly es e = (
+-- BY OUR OWN LINK'S IDLE TIME
+pub own-connects-exactly : (es : Log) (e : Event)
+    → Says connectedReport (reportsTo ours es e) ↔ ((numberAfter (takenOf es) e ≡ taken) × ConnectsBy ownUntil (takenOf es) e)
+own-connects-exactly es e = (
   forward-by (eqb (numberAfter (takenOf es) e) taken) es e refl,
   (λ c. ap (isAmong connectedReport) (reports-taken es e (c .0)) ∙ completes-says (after ours es .link) e (completes-connects es e (c .0) .1 (c .1))),
 )

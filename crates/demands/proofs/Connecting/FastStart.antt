@@ -1,7 +1,7 @@
 -- The fast start: a byte completes a run from a wake-up exactly if the wake-up and its bytes are a good fast start with the run's key bytes, and on the way
 -- the place that is due is the one that the run's stage means. Both follow byte by byte, as for the slow start; the link keeps its sums modulo 256.
 -- Assumes nothing.
-use Prim.Native.Nat.{ℕ, _+_, _%_}
+use Prim.Native.Nat.{ℕ, _+_, _%_, _≤_}
 use mathlib.Core.Bool.{true, false, false≢true}
 use mathlib.Core.List.{List, [], _∷_, _++_, append-nil, append-assoc}
 use mathlib.Core.Logic.{inl, inr}
@@ -27,7 +27,7 @@ use Rattle.demands.specs.Starts.{any, only, sumBehind, IsOne, lastPlace,
 use Rattle.demands.specs.Starts.{Header, plain, plain-long, addressed, addressed-long, FastStart, fast}
 use Rattle.demands.specs.Starts.{dueData, dueLength, dueAddresses, dueReply, dueFast, dueSlow, isAddress, due}
 use Rattle.demands.proofs.Connecting.Running.{fallBy, startOn, lastEnd, Starts, Runs, Done}
-use Rattle.demands.proofs.Connecting.Waking.{IdleSince, idle-time, good-low}
+use Rattle.demands.proofs.Connecting.Waking.{good-low}
 use Rattle.demands.proofs.Connecting.Staged.{at, placeOf}
 use Rattle.demands.proofs.Connecting.Judging.{Passes, comes, right-of, comes-next, On, on-first, on-more, on-next, on-last, way, done-good}
 
@@ -108,7 +108,7 @@ module _ (w : Event) (bs : Log) (c b : Event) (r : Request w bs c) (p : Right re
   format-by (inr (inr (inr (inr n)))) = absurd n
 
 -- ---- from the run to the bytes
-first : (m : Micros) (w : Event) → w .kind ≡ WakeUp → Starts WakeUp m w → SoFar w none fastStart
+first : (m : ℕ) (w : Event) → w .kind ≡ WakeUp → Starts WakeUp m w → SoFar w none fastStart
 unfolding fastStart
 first m w k s = q0 k (good-low w .0 (s .1))
 
@@ -162,7 +162,7 @@ finish w bs s b (d11 h p1 p2 e) g z = absurd (false≢true z)
 finish w bs s b (d12 {one = one} {two = two} h p1 p2 p3 e) g z =
     let c = comes-next refl g in fast {one = one} {two = two} {sum = b} h p1 p2 p3 (c .0, c .1, (c .2 .0 ∙ e, c .2 .1))
 
-pub fast-done : (m : Micros) (w : Event) (bs : Log) (b : Event) → w .kind ≡ WakeUp → Done m w bs b
+pub fast-done : (m : ℕ) (w : Event) (bs : Log) (b : Event) → w .kind ≡ WakeUp → Done m w bs b
     → FastStart w (startOn w bs .pair) (bs ▷ b)
 fast-done m w bs b k d = done-good WakeUp SoFar first one-more Good finish m w bs b k d
 
@@ -199,7 +199,7 @@ place-by w bs s (d12 {bs = hs} {service = y} {one = one} {two = two} {x = x} h p
     ∙ header-due h (y ∷ one ∷ two ∷ [])
     ∙ ap (λ (v : ℕ). lastPlace Unit 0 20_000 (sumBehind v (pairOf (one .value) (two .value)))) (sym e)
 
-pub fast-place : (m : Micros) (w : Event) (bs : Log) → w .kind ≡ WakeUp → Runs m w bs → due w (eventsOf bs) ≡ placeOf (startOn w bs)
+pub fast-place : (m : ℕ) (w : Event) (bs : Log) → w .kind ≡ WakeUp → Runs m w bs → due w (eventsOf bs) ≡ placeOf (startOn w bs)
 unfolding due isAddress
 fast-place m w bs k r =
     ap (λ (x : Kind). if isAddress x then dueSlow (w .value) (eventsOf bs) else dueFast (eventsOf bs)) k
@@ -214,7 +214,7 @@ opens-passes w f k l p =
     (right-of fastStart (w .start) (w .end) f (omega (arith, l .1, p .1 .0)) p)
 
 -- the request
-on-request : (m : Micros) (w : Event) (bs : Log) (c : Event) → IdleSince m w → Request w bs c → On m w bs (at 0 Format 0 0 0)
+on-request : (m : ℕ) (w : Event) (bs : Log) (c : Event) → m ≤ w .start .0 → Request w bs c → On m w bs (at 0 Format 0 0 0)
 unfolding dueAt onward isLast fastStart byteSum
 on-request m w bs c i (request {f = f} {t = t} {s = s} {d = d} k l p1 p2 p3 p4 p5) =
     let b1 = none ▷ f in
@@ -226,7 +226,7 @@ on-request m w bs c i (request {f = f} {t = t} {s = s} {d = d} k l p1 p2 p3 p4 p
     let x4 : ℕ = (x3 + d .value) % 256 in
     let sum : c .value ≡ x4 =
     p5 .2 ∙ sym (more x3 (f .value + t .value + s .value) (d .value) (more x2 (f .value + t .value) (s .value) (more x1 (f .value) (t .value) (from-zero (f .value))))) in
-    let o0 = on-first m w WakeUp k (idle-time m (w .start) .1 i, good-low w .1 l) in
+    let o0 = on-first m w WakeUp k (i, good-low w .1 l) in
     let o1 = on-more m w none fastStart f o0 (opens-passes w f k l p1) refl in
     let o2 = on-next m w b1 (at 0 AskTarget x1 0 0) t (f .end) refl refl o1 p2 refl in
     let o3 = on-next m w b2 (at 0 AskSource x2 0 0) s (t .end) refl refl o2 p3 refl in
@@ -234,12 +234,12 @@ on-request m w bs c i (request {f = f} {t = t} {s = s} {d = d} k l p1 p2 p3 p4 p
     on-next m w (b3 ▷ d) (at 0 AskSum x4 0 0) c (d .end) refl refl o4 (p5 .0, p5 .1, sum) refl
 
 -- the header of the reply: it leads to the stage after it, with the sum of its bytes
-record Headed (m : Micros) (w : Event) (bs : Log) (n : ℕ) : Type 0 where
+record Headed (m : ℕ) (w : Event) (bs : Log) (n : ℕ) : Type 0 where
   sum : ℕ
   on : On m w bs (at 0 Service sum 0 0)
   sums : sum ≡ n % 256
 
-module _ (m : Micros) (w : Event) (bs : Log) (c f : Event) (i : IdleSince m w) (r : Request w bs c) (p : Right replies (c .end) f) where
+module _ (m : ℕ) (w : Event) (bs : Log) (c f : Event) (i : m ≤ w .start .0) (r : Request w bs c) (p : Right replies (c .end) f) where
   abbrev x1 : ℕ
   x1 = (0 + f .value) % 256
 
@@ -271,7 +271,7 @@ module _ (m : Micros) (w : Event) (bs : Log) (c f : Event) (i : IdleSince m w) (
         (on-next m w (bs ▷ f) (at 0 LongTarget x1 0 0) t (f .end) refl refl o p2 refl) p3 refl
 
 -- the length byte
-on-length : (m : Micros) (w : Event) (bs : Log) (y len : Event) (x n : ℕ) → On m w (bs ▷ y) (at 0 Length x 0 0)
+on-length : (m : ℕ) (w : Event) (bs : Log) (y len : Event) (x n : ℕ) → On m w (bs ▷ y) (at 0 Length x 0 0)
     → Right (next Unit (only 3)) (y .end) len → x ≡ n % 256 → Headed m w (bs ▷ y ▷ len) (n + len .value)
 unfolding dueAt onward isLast byteSum
 on-length m w bs y len x n o p e = record {
@@ -280,7 +280,7 @@ on-length m w bs y len x n o p e = record {
   sums = more x n (len .value) e;
 }
 
-on-header : (m : Micros) (w : Event) (bs : Log) (h : Event) (n : ℕ) → IdleSince m w → Header w bs h n → Headed m w bs n
+on-header : (m : ℕ) (w : Event) (bs : Log) (h : Event) (n : ℕ) → m ≤ w .start .0 → Header w bs h n → Headed m w bs n
 unfolding afterFormat
 on-header m w bs h n i (plain {bs = rq} {c = c} {f = f} r p v) = record {
   sum = (0 + f .value) % 256;
@@ -298,7 +298,7 @@ on-header m w bs h n i (addressed-long {bs = rq} {c = c} {f = f} {t = t} {s = s}
     on-length m w (rq ▷ f ▷ t) s len (x3 m w rq c f i r p t s p2 p3) (f .value + t .value + s .value)
     (on-long m w rq c f i r p t s p2 p3 (on-format m w rq c f i r p LongTarget (ap afterFormat v))) p4 (sum3 m w rq c f i r p t s p2 p3)
 
-pub done-fast : (m : Micros) (w : Event) (pair : Pair) (bs : Log) (b : Event) → IdleSince m w → FastStart w pair (bs ▷ b)
+pub done-fast : (m : ℕ) (w : Event) (pair : Pair) (bs : Log) (b : Event) → m ≤ w .start .0 → FastStart w pair (bs ▷ b)
     → Done m w bs b × (startOn w bs .pair ≡ pair) × (isGood pair ≡ true)
 unfolding dueAt onward isLast byteSum
 done-fast m w pair bs b i (fast {bs = hs} {h = h} {service = service} {one = one} {two = two} {n = n} hd p1 p2 p3 p4) =

@@ -120,16 +120,16 @@ module _ (a : Event) (bs : Log) (b : Event) where
   last-of = refl
 
 -- the bytes run, and lead to s
-pub record On (m : Micros) (a : Event) (bs : Log) (s : Start) : Type 0 where
+pub record On (m : ℕ) (a : Event) (bs : Log) (s : Start) : Type 0 where
   pub runs : Runs m a bs
   pub at : startOn a bs ≡ s
 
 -- no bytes yet
-pub on-first : (m : Micros) (a : Event) (k : Kind) → a .kind ≡ k → Starts k m a → On m a none (firstBy k (a .value))
+pub on-first : (m : ℕ) (a : Event) (k : Kind) → a .kind ≡ k → Starts k m a → On m a none (firstBy k (a .value))
 unfolding startOn
 on-first m a k e s = record { runs = subst (λ (x : Kind). Starts x m a) (sym e) s; at = ap (λ (x : Kind). firstBy x (a .value)) e }
 
-module _ (m : Micros) (a : Event) (bs : Log) (s : Start) (b : Event) (o : On m a bs s) (f : Passes s (fallBy (a .kind) (a .start)) (lastEnd a bs) b) where
+module _ (m : ℕ) (a : Event) (bs : Log) (s : Start) (b : Event) (o : On m a bs s) (f : Passes s (fallBy (a .kind) (a .start)) (lastEnd a bs) b) where
   hears-on : Hears a bs b
   hears-on = hears-of a bs b (subst (λ (x : Start). Passes x (fallBy (a .kind) (a .start)) (lastEnd a bs) b) (sym (o .at)) f)
 
@@ -145,7 +145,7 @@ module _ (m : Micros) (a : Event) (bs : Log) (s : Start) (b : Event) (o : On m a
   on-done z = (o .runs, hears-on, last-on ∙ z)
 
 -- the same of a byte that is right after the mark
-module _ (m : Micros) (a : Event) (bs : Log) (s : Start) (b : Event) (mark : Micros) (end : lastEnd a bs ≡ mark)
+module _ (m : ℕ) (a : Event) (bs : Log) (s : Start) (b : Event) (mark : Micros) (end : lastEnd a bs ≡ mark)
     (timed : dueAt (s .stage) .opening ≡ false) (o : On m a bs s) (c : Right (placeOf s) mark b) where
   passes-next : Passes s (fallBy (a .kind) (a .start)) (lastEnd a bs) b
   passes-next = subst (λ (x : Micros). Passes s (fallBy (a .kind) (a .start)) x b) (sym end) (right-next timed c)
@@ -158,14 +158,14 @@ module _ (m : Micros) (a : Event) (bs : Log) (s : Start) (b : Event) (mark : Mic
 
 -- what holds at the start and is kept by each byte that passes holds of every run; ..
 module _ (kind : Kind) (SoFar : Event → Log → Start → Type 0)
-    (first : (m : Micros) (a : Event) → a .kind ≡ kind → Starts kind m a → SoFar a none (firstBy kind (a .value)))
+    (first : (m : ℕ) (a : Event) → a .kind ≡ kind → Starts kind m a → SoFar a none (firstBy kind (a .value)))
     (one-more : (a : Event) (bs : Log) (s : Start) (b : Event) → SoFar a bs s → Passes s (fallBy kind (a .start)) (lastEnd a bs) b
     → isLast (s .stage) ≡ false
     → SoFar a (bs ▷ b) (onward s (b .value))) where
   passes-by : (a : Event) (bs : Log) (b : Event) → a .kind ≡ kind → Hears a bs b → Passes (startOn a bs) (fallBy kind (a .start)) (lastEnd a bs) b
   passes-by a bs b k h = subst (λ (x : Kind). Passes (startOn a bs) (fallBy x (a .start)) (lastEnd a bs) b) k (passes-of a bs b h)
 
-  pub way : (m : Micros) (a : Event) (bs : Log) → a .kind ≡ kind → Runs m a bs → SoFar a bs (startOn a bs)
+  pub way : (m : ℕ) (a : Event) (bs : Log) → a .kind ≡ kind → Runs m a bs → SoFar a bs (startOn a bs)
   unfolding startOn
   way m a none k r =
       subst (λ (x : Kind). SoFar a none (firstBy x (a .value))) (sym k) (first m a k (subst (λ (x : Kind). Starts x m a) k r))
@@ -177,5 +177,5 @@ module _ (kind : Kind) (SoFar : Event → Log → Start → Type 0)
       (finish : (a : Event) (bs : Log) (s : Start) (b : Event) → SoFar a bs s → Passes s (fallBy kind (a .start)) (lastEnd a bs) b
       → isLast (s .stage) ≡ true
       → Good a bs s b) where
-    pub done-good : (m : Micros) (a : Event) (bs : Log) (b : Event) → a .kind ≡ kind → Done m a bs b → Good a bs (startOn a bs) b
+    pub done-good : (m : ℕ) (a : Event) (bs : Log) (b : Event) → a .kind ≡ kind → Done m a bs b → Good a bs (startOn a bs) b
     done-good m a bs b k d = finish a bs (startOn a bs) b (way m a bs k (d .0)) (passes-by a bs b k (d .1)) (sym (last-of a bs b) ∙ d .2)

@@ -22,12 +22,13 @@ use Rattle.demands.specs.Logs.{Log, none, _▷_, heardOf, heardIn, numbe
 use Rattle.demands.specs.Histories.{Machine, reportsTo, Says, Among, first}
 use Rattle.demands.specs.Accounts.{namedBy}
 use Rattle.demands.specs.Starts.{SlowStart, slow, request, Header, plain, plain-long, addressed, addressed-long, FastStart, fast}
-use Rattle.demands.specs.Connecting.{Since, here, tick, byte, Connects, Connected}
+use Rattle.demands.specs.Connecting.{Since, here, tick, byte, ConnectsBy, Connected}
 use Rattle.demands.specs.Endings.{Starter}
 use Rattle.demands.specs.Sessions.{opening, firstKeyAt, firstKey, secondKey, openedBy}
 use Rattle.demands.specs.Ours.{ours}
-use Rattle.demands.proofs.Connecting.ConnectsExactly.{connects-exactly}
-use Rattle.demands.proofs.Connecting.ConnectedReport.{connects-names}
+use Rattle.demands.proofs.Connecting.Running.{ownUntil}
+use Rattle.demands.proofs.Connecting.ConnectsExactly.{own-connects-exactly}
+use Rattle.demands.proofs.Connecting.ConnectedReport.{own-connects-names}
 use Rattle.demands.proofs.Histories.BytesHeard.{byte-more}
 use Rattle.demands.proofs.Moves.ReportsInList.{only-one, among-says}
 
@@ -109,60 +110,60 @@ start-keys : {a : Event} {pair : Pair} {bs : Log} → SlowStart a pair bs ⊎ Fa
 start-keys (inl s) = slow-keys s
 start-keys (inr s) = fast-keys s
 
--- ---- THE BYTES THAT ITS REPORT 3 NAMES are all of them
-abbrev pub third : (log : Log) (e : Event) → Connects log e → Report
-third log e c = record {
-  first = length (heardOf (c .before));
-  bytes = length (heardOf (c .bytes)) + 1;
-  time = e .end;
-  number = connectedReport;
-  reason = noReason;
-}
+-- ---- THE BYTES THAT ITS REPORT 3 NAMES are all of them, whatever is asked of the idle time
+module _ (until : Log → Event → ℕ) where
+  abbrev pub third : (log : Log) (e : Event) → ConnectsBy until log e → Report
+  third log e c = record {
+    first = length (heardOf (c .before));
+    bytes = length (heardOf (c .bytes)) + 1;
+    time = e .end;
+    number = connectedReport;
+    reason = noReason;
+  }
 
-third-names : (es : Log) (e : Event) → numberAfter (takenOf es) e ≡ taken → (c : Connects (takenOf es) e)
-    → namedBy (heardIn (es ▷ e)) (third (takenOf es) e c) ≡ valuesIn (c .bytes ▷ e)
-unfolding namedBy valuesIn
-third-names es e q c =
-    let b = heardOf (c .before) in
-    let v = valuesIn (c .bytes) ++ (e .value ∷ []) in
-    let whole : heardIn (es ▷ e) ≡ b ++ v = byte-more es e q (c .last)
-    ∙ ap (λ (l : List ℕ). l ++ (e .value ∷ [])) (since-values (not-byte (c .start) (starter (c .good))) (c .since))
-    ∙ append-assoc b (valuesIn (c .bytes)) (e .value ∷ []) in
-    rw (whole, drop-append-seam b v)
-    (take-all (length (heardOf (c .bytes)) + 1) v (omega (arith, length-append (valuesIn (c .bytes)) (e .value ∷ []), ap length (since-bytes (c .since)))))
+  third-names : (es : Log) (e : Event) → numberAfter (takenOf es) e ≡ taken → (c : ConnectsBy until (takenOf es) e)
+      → namedBy (heardIn (es ▷ e)) (third (takenOf es) e c) ≡ valuesIn (c .bytes ▷ e)
+  unfolding namedBy valuesIn
+  third-names es e q c =
+      let b = heardOf (c .before) in
+      let v = valuesIn (c .bytes) ++ (e .value ∷ []) in
+      let whole : heardIn (es ▷ e) ≡ b ++ v = byte-more es e q (c .last)
+      ∙ ap (λ (l : List ℕ). l ++ (e .value ∷ [])) (since-values (not-byte (c .start) (starter (c .good))) (c .since))
+      ∙ append-assoc b (valuesIn (c .bytes)) (e .value ∷ []) in
+      rw (whole, drop-append-seam b v)
+      (take-all (length (heardOf (c .bytes)) + 1) v (omega (arith, length-append (valuesIn (c .bytes)) (e .value ∷ []), ap length (since-bytes (c .since)))))
 
-keyed : (es : Log) (e : Event) (r : Report) → numberAfter (takenOf es) e ≡ taken → (c : Connects (takenOf es) e) → r ≡ third (takenOf es) e c
-    → openedBy (namedBy (heardIn (es ▷ e)) r) ≡ opening (c .pair)
-keyed es e r q c p =
-    let k = start-keys (c .good) in
-    let n = ap (namedBy (heardIn (es ▷ e))) p ∙ third-names es e q c in
-    ap₂ (λ (a b : ℕ). opening (pairOf a b)) (ap firstKey n ∙ k .one) (ap secondKey n ∙ k .two)
+  keyed : (es : Log) (e : Event) (r : Report) → numberAfter (takenOf es) e ≡ taken → (c : ConnectsBy until (takenOf es) e) → r ≡ third (takenOf es) e c
+      → openedBy (namedBy (heardIn (es ▷ e)) r) ≡ opening (c .pair)
+  keyed es e r q c p =
+      let k = start-keys (c .good) in
+      let n = ap (namedBy (heardIn (es ▷ e))) p ∙ third-names es e q c in
+      ap₂ (λ (a b : ℕ). opening (pairOf a b)) (ap firstKey n ∙ k .one) (ap secondKey n ∙ k .two)
 
--- ---- A REPORT 3, of a link that makes it exactly where an initialization is completed, alone, of all of its bytes
-pub record OpenedBy (es : Log) (e : Event) (r : Report) : Type 0 where
-  pub number : numberAfter (takenOf es) e ≡ taken
-  pub connects : Connects (takenOf es) e
-  pub only : r ≡ third (takenOf es) e connects
-  pub same : openedBy (namedBy (heardIn (es ▷ e)) r) ≡ opening (connects .pair)
+  -- ---- A REPORT 3, of a link that makes it exactly where an initialization is completed, alone, of all of its bytes
+  pub record OpenedBy (es : Log) (e : Event) (r : Report) : Type 0 where
+    pub number : numberAfter (takenOf es) e ≡ taken
+    pub connects : ConnectsBy until (takenOf es) e
+    pub only : r ≡ third (takenOf es) e connects
+    pub same : openedBy (namedBy (heardIn (es ▷ e)) r) ≡ opening (connects .pair)
 
-module _ (m : Machine)
-    (exactly : (es : Log) (e : Event) → Says connectedReport (reportsTo m es e) ↔ ((numberAfter (takenOf es) e ≡ taken) × Connects (takenOf es) e))
-    (names : (es : Log) (e : Event) → numberAfter (takenOf es) e ≡ taken → (c : Connects (takenOf es) e) → Connected (takenOf es) e c (reportsTo m es e)) where
-  pub report-opens : (es : Log) (e : Event) (r : Report) → Among r (reportsTo m es e) → r .number ≡ connectedReport → OpenedBy es e r
-  report-opens es e r a n =
-      let x = exactly es e .0 (among-says connectedReport a n) in
-      let one : r ≡ third (takenOf es) e (x .1) = only-one (subst (Among r) (names es e (x .0) (x .1) .reports) a) in
-      record { number = x .0; connects = x .1; only = one; same = keyed es e r (x .0) (x .1) one }
+  module _ (m : Machine) (es : Log) (e : Event)
+      (exactly : Says connectedReport (reportsTo m es e) ↔ ((numberAfter (takenOf es) e ≡ taken) × ConnectsBy until (takenOf es) e))
+      (names : numberAfter (takenOf es) e ≡ taken → (c : ConnectsBy until (takenOf es) e) → Connected (takenOf es) e c (reportsTo m es e)) where
+    pub report-opens : (r : Report) → Among r (reportsTo m es e) → r .number ≡ connectedReport → OpenedBy es e r
+    report-opens r a n =
+        let x = exactly .0 (among-says connectedReport a n) in
+        let one : r ≡ third (takenOf es) e (x .1) = only-one (subst (Among r) (names (x .0) (x .1) .reports) a) in
+        record { number = x .0; connects = x .1; only = one; same = keyed es e r (x .0) (x .1) one }
 
-  -- and the other way round
-  pub connects-made : (es : Log) (e : Event) → numberAfter (takenOf es) e ≡ taken → (c : Connects (takenOf es) e)
-      → Among (third (takenOf es) e c) (reportsTo m es e)
-  connects-made es e q c = subst (Among (third (takenOf es) e c)) (sym (names es e q c .reports)) first
+    -- and the other way round
+    pub connects-made : numberAfter (takenOf es) e ≡ taken → (c : ConnectsBy until (takenOf es) e) → Among (third (takenOf es) e c) (reportsTo m es e)
+    connects-made q c = subst (Among (third (takenOf es) e c)) (sym (names q c .reports)) first
 
--- our link is one
-pub ours-opens : (es : Log) (e : Event) (r : Report) → Among r (reportsTo ours es e) → r .number ≡ connectedReport → OpenedBy es e r
-ours-opens = report-opens ours connects-exactly connects-names
+-- our link is one, by its own idle time
+pub ours-opens : (es : Log) (e : Event) (r : Report) → Among r (reportsTo ours es e) → r .number ≡ connectedReport → OpenedBy ownUntil es e r
+ours-opens es e = report-opens ownUntil ours es e (own-connects-exactly es e) (own-connects-names es e)
 
-pub ours-made : (es : Log) (e : Event) → numberAfter (takenOf es) e ≡ taken → (c : Connects (takenOf es) e)
-    → Among (third (takenOf es) e c) (reportsTo ours es e)
-ours-made = connects-made ours connects-exactly connects-names
+pub ours-made : (es : Log) (e : Event) → numberAfter (takenOf es) e ≡ taken → (c : ConnectsBy ownUntil (takenOf es) e)
+    → Among (third ownUntil (takenOf es) e c) (reportsTo ours es e)
+ours-made es e = connects-made ownUntil ours es e (own-connects-exactly es e) (own-connects-names es e)

@@ -1,10 +1,10 @@
 -- An initialization over a log: from a good start, each byte after it is right and not the last. While such a log's window is open the link is at
 -- what its bytes lead to, and a link in an initialization has such a log after it; every event that is taken keeps both.
 -- Assumes nothing.
-use Prim.Native.Nat.{ℕ, _-_, _≤_}
+use Prim.Native.Nat.{ℕ, _+_, _-_, _≤_}
 use mathlib.Core.Bool.{Bool, true, false, false≢true}
 use mathlib.Core.Path.{_≡_, _∙_, refl, sym, ap, ap₂, subst}
-use mathlib.Core.Logic.{inl, inr}
+use mathlib.Core.Logic.{_↔_, inl, inr}
 use native.Mathlib.Omega.{arith}
 use borrow.Author.Tests.{ltb-false, le-ltb}
 use Rattle.base.specs.Reports.{noReason, restarted}
@@ -18,16 +18,19 @@ use Rattle.starts.specs.Starts.{dueAt, originOf, judged, isOver, isLast, onward
 use Rattle.starts.specs.declared.Start.{Start}
 use Rattle.phases.specs.Phases.{isStarting, down, starting}
 use Rattle.phases.specs.declared.Phase.{Phase}
-use Rattle.moves.specs.Moves.{sinceOrigin, isIdle, isGoodLow}
+use Rattle.moves.specs.Moves.{sinceOrigin, isGoodLow}
 use Rattle.reports.specs.Reporting.{withPhase}
 use Rattle.reports.specs.declared.Run.{Run}
 use Rattle.link.specs.Handling.{freshLink, passed, shut, hearing, begun, handled, linkAfter}
 use Rattle.link.specs.declared.Link.{Link}
 use Rattle.demands.specs.Logs.{Log, none, _▷_, markOf}
+use Rattle.demands.specs.Histories.{after}
 use Rattle.demands.specs.Connecting.{Since, here, tick, byte}
-use Rattle.demands.proofs.Moves.Entering.{In, Open, carried, Completes, Leads, begins-slow, begins-fast, grows, waits}
+use Rattle.demands.specs.Ours.{ours}
+use Rattle.demands.proofs.Moves.Entering.{In, Open, carried, Completes, judging, hasIdled, Leads, begins-slow, begins-fast, grows, waits}
 use Rattle.demands.proofs.Moves.Causes.{leads}
 use Rattle.demands.proofs.Moves.Completing.{slow-run, fast-run, wait-run, right-run}
+use Rattle.demands.proofs.Connecting.Waking.{idle-time}
 
 -- ---- the initialization that an event starts, and how far the bytes after it bring it
 abbrev pub firstBy : Kind → ℕ → Start
@@ -58,14 +61,18 @@ abbrev pub lastEnd : Event → Log → Micros
 lastEnd a none = a .end
 lastEnd a (bs ▷ b) = b .end
 
--- ---- a good start at the mark m, and bytes that are right
-abbrev pub Starts : Kind → Micros → Event → Type 0
-Starts Address m a = isIdle m (a .start) ≡ true
-Starts WakeUp m a = (isIdle m (a .start) ≡ true) × (isGoodLow (a .start) (a .end) ≡ true)
+-- ---- a good start, no sooner than at the time m, and bytes that are right
+abbrev pub Starts : Kind → ℕ → Event → Type 0
+Starts Address m a = m ≤ a .start .0
+Starts WakeUp m a = (m ≤ a .start .0) × (isGoodLow (a .start) (a .end) ≡ true)
 Starts Byte m a = ⊥
 Starts Tick m a = ⊥
 Starts Drop m a = ⊥
 Starts Other m a = ⊥
+
+-- the time from which our link, as it is after these events, lets this one start an initialization. (That it is the history's: IdleTimes/.)
+abbrev pub ownUntil : Log → Event → ℕ
+ownUntil log a = markOf log .0 + judging (after ours log .link) a .idle .0
 
 -- a byte comes after the last one, finds the window open, and is right
 pub record Hears (a : Event) (bs : Log) (b : Event) : Type 0 where
@@ -76,15 +83,15 @@ pub record Hears (a : Event) (bs : Log) (b : Event) : Type 0 where
 abbrev pub isLastOn : Event → Log → Bool
 isLastOn a bs = isLast (phaseOn a bs .start .stage)
 
-abbrev pub Runs : Micros → Event → Log → Type 0
+abbrev pub Runs : ℕ → Event → Log → Type 0
 Runs m a none = Starts (a .kind) m a
 Runs m a (bs ▷ b) = Runs m a bs × Hears a bs b × (isLastOn a bs ≡ false)
 
 -- and one that completes it
-abbrev pub Done : Micros → Event → Log → Event → Type 0
+abbrev pub Done : ℕ → Event → Log → Event → Type 0
 Done m a bs b = Runs m a bs × Hears a bs b × (isLastOn a bs ≡ true)
 
-starts-mark : (k : Kind) (m : Micros) (a : Event) → Starts k m a → marks k ≡ true
+starts-mark : (k : Kind) (m : ℕ) (a : Event) → Starts k m a → marks k ≡ true
 unfolding marks
 starts-mark Address m a s = refl
 starts-mark WakeUp m a s = refl
@@ -94,11 +101,22 @@ starts-mark Drop m a s = absurd s
 starts-mark Other m a s = absurd s
 
 -- a run has a good start
-pub runs-starts : (m : Micros) (a : Event) (bs : Log) → Runs m a bs → Starts (a .kind) m a
+pub runs-starts : (m : ℕ) (a : Event) (bs : Log) → Runs m a bs → Starts (a .kind) m a
 runs-starts m a none r = r
 runs-starts m a (bs ▷ b) r = runs-starts m a bs (r .0)
 
-pub runs-mark : (m : Micros) (a : Event) (bs : Log) → Runs m a bs → marks (a .kind) ≡ true
+starts-idle : (k : Kind) (m : ℕ) (a : Event) → Starts k m a → m ≤ a .start .0
+starts-idle Address m a s = s
+starts-idle WakeUp m a s = s .0
+starts-idle Byte m a s = absurd s
+starts-idle Tick m a s = absurd s
+starts-idle Drop m a s = absurd s
+starts-idle Other m a s = absurd s
+
+pub runs-idle : (m : ℕ) (a : Event) (bs : Log) → Runs m a bs → m ≤ a .start .0
+runs-idle m a bs r = starts-idle (a .kind) m a (runs-starts m a bs r)
+
+pub runs-mark : (m : ℕ) (a : Event) (bs : Log) → Runs m a bs → marks (a .kind) ≡ true
 runs-mark m a bs r = starts-mark (a .kind) m a (runs-starts m a bs r)
 
 -- the mark of a log is the end of the last byte, or of the start
@@ -144,18 +162,19 @@ pub record Going (p : Phase) (log : Log) : Type 0 where
   pub before : Log
   pub bytes : Log
   pub since : Since start before log bytes
-  pub runs : Runs (markOf before) start bytes
+  pub runs : Runs (ownUntil before start) start bytes
   pub phase : p ≡ phaseOn start bytes
 
 -- THE INVARIANT
 pub record Inv (l : Link) (log : Log) : Type 0 where
   pub forth : In (l .phase) → Going (l .phase) log
-  pub back : (a : Event) (before bs : Log) → Since a before log bs → Runs (markOf before) a bs → Open (phaseOn a bs) (lastEnd a bs) (l .clock)
+  pub back : (a : Event) (before bs : Log) → Since a before log bs → Runs (ownUntil before a) a bs → Open (phaseOn a bs) (lastEnd a bs) (l .clock)
       → l .phase ≡ phaseOn a bs
 
--- the link's mark is its log's, and the event, of a known kind, comes after its clock
+-- the link is the one after its log, and the event, of a known kind, comes after its clock
 pub record Behind (l : Link) (log : Log) (e : Event) : Type 0 where
   pub mark : l .mark ≡ markOf log
+  pub own : ownUntil log e ≡ l .mark .0 + judging l e .idle .0
   pub order : l .mark .0 ≤ l .clock .0
   pub later : l .clock .0 ≤ e .start .0
   pub ordered : e .start .0 ≤ e .end .0
@@ -175,22 +194,28 @@ module _ (l : Link) (log : Log) (e : Event) (t : Behind l log e) (inv : Inv l lo
   r = passed (begun l e) (l .mark) (e .start)
 
   on-mark : {p : Phase} (g : Going p log) → l .mark ≡ lastEnd (g .start) (g .bytes)
-  on-mark g = t .mark ∙ since-mark (runs-mark (markOf (g .before)) (g .start) (g .bytes) (g .runs)) (g .since)
+  on-mark g = t .mark ∙ since-mark (runs-mark (ownUntil (g .before) (g .start)) (g .start) (g .bytes) (g .runs)) (g .since)
+
+  -- the link's test of the idle time
+  idled : (hasIdled l e ≡ true) ↔ (ownUntil log e ≤ e .start .0)
+  idled =
+      let x = idle-time (judging l e .idle) (l .mark) (e .start) (omega (arith, t .order, t .later)) in
+      (λ i. omega (arith, t .own, x .0 i), λ h. x .1 (omega (arith, t .own, h)))
 
   -- ---- forth
-  forth-start : (q : Phase) → Starts (e .kind) (l .mark) e → q ≡ phaseOn e none → Going q (log ▷ e)
+  forth-start : (q : Phase) → Starts (e .kind) (ownUntil log e) e → q ≡ phaseOn e none → Going q (log ▷ e)
   forth-start q s h = record {
     start = e;
     before = log;
     bytes = none;
     since = here;
-    runs = subst (λ (m : Micros). Starts (e .kind) m e) (t .mark) s;
+    runs = s;
     phase = h;
   }
 
   forth-by : (q : Phase) → Leads l e q → Going q (log ▷ e)
-  forth-by q (begins-slow k i) = forth-start q (subst (λ (x : Kind). Starts x (l .mark) e) (sym k) i) (slow-first e k)
-  forth-by q (begins-fast k i g) = forth-start q (subst (λ (x : Kind). Starts x (l .mark) e) (sym k) (i, g)) (fast-first e k)
+  forth-by q (begins-slow k i) = forth-start q (subst (λ (x : Kind). Starts x (ownUntil log e) e) (sym k) (idled .0 i)) (slow-first e k)
+  forth-by q (begins-fast k i g) = forth-start q (subst (λ (x : Kind). Starts x (ownUntil log e) e) (sym k) (idled .0 i, g)) (fast-first e k)
   forth-by q (grows k i o v z) =
       let g = inv .forth i in
       let m = on-mark g in
@@ -217,16 +242,16 @@ module _ (l : Link) (log : Log) (e : Event) (t : Behind l log e) (inv : Inv l lo
 
   -- ---- and back: what the event makes of the run
   -- a good start
-  start-by : (k : Kind) → e .kind ≡ k → Starts k (l .mark) e → handled l e ≡ withPhase (shut r restarted) (phaseOn e none)
-  start-by Address k s = slow-run l e k s ∙ ap (withPhase (shut r restarted)) (slow-first e k)
-  start-by WakeUp k s = fast-run l e k (s .0) (s .1) ∙ ap (withPhase (shut r restarted)) (fast-first e k)
+  start-by : (k : Kind) → e .kind ≡ k → Starts k (ownUntil log e) e → handled l e ≡ withPhase (shut r restarted) (phaseOn e none)
+  start-by Address k s = slow-run l e k (idled .1 s) ∙ ap (withPhase (shut r restarted)) (slow-first e k)
+  start-by WakeUp k s = fast-run l e k (idled .1 (s .0)) (s .1) ∙ ap (withPhase (shut r restarted)) (fast-first e k)
   start-by Byte k s = absurd s
   start-by Tick k s = absurd s
   start-by Drop k s = absurd s
   start-by Other k s = absurd s
 
-  pub back-start : Starts (e .kind) (markOf log) e → handled l e ≡ withPhase (shut r restarted) (phaseOn e none)
-  back-start s = start-by (e .kind) refl (subst (λ (m : Micros). Starts (e .kind) m e) (sym (t .mark)) s)
+  pub back-start : Starts (e .kind) (ownUntil log e) e → handled l e ≡ withPhase (shut r restarted) (phaseOn e none)
+  back-start s = start-by (e .kind) refl s
 
   -- with its window open at the event's start, the link is at what the log leads to
   pub record At (a : Event) (bs : Log) : Type 0 where
@@ -235,11 +260,11 @@ module _ (l : Link) (log : Log) (e : Event) (t : Behind l log e) (inv : Inv l lo
     pub was : In (l .phase)
     pub window : Open (l .phase) (l .mark) (e .start)
 
-  pub back-open : (a : Event) (before bs : Log) → Since a before log bs → Runs (markOf before) a bs
+  pub back-open : (a : Event) (before bs : Log) → Since a before log bs → Runs (ownUntil before a) a bs
       → Open (phaseOn a bs) (lastEnd a bs) (e .start) → At a bs
   back-open a before bs s u o =
       let p = inv .back a before bs s u (open-early (phaseOn a bs) (lastEnd a bs) (l .clock) (e .start) (t .later) o) in
-      let m = t .mark ∙ since-mark (runs-mark (markOf before) a bs u) s in
+      let m = t .mark ∙ since-mark (runs-mark (ownUntil before a) a bs u) s in
       record {
         phase = p;
         mark = m;
@@ -260,7 +285,7 @@ module _ (l : Link) (log : Log) (e : Event) (t : Behind l log e) (inv : Inv l lo
       ∙ ap (withPhase (hearing (begun l e))) (next-same (l .phase) (l .mark) a bs e (w .phase) (w .mark))
 
 back-by : (l : Link) (log : Log) (e : Event) → Behind l log e → Inv l log → (a : Event) (before bs : Log) → Since a before (log ▷ e) bs
-    → Runs (markOf before) a bs → Open (phaseOn a bs) (lastEnd a bs) (e .end) → handled l e .phase ≡ phaseOn a bs
+    → Runs (ownUntil before a) a bs → Open (phaseOn a bs) (lastEnd a bs) (e .end) → handled l e .phase ≡ phaseOn a bs
 unfolding begun
 back-by l log e t inv a before bs here u o = ap (λ (x : Run). x .phase) (back-start l log e t inv u)
 back-by l log e t inv a before bs (tick k s) u o =
@@ -288,7 +313,7 @@ pub record Ends (log : Log) (e : Event) : Type 0 where
   pub before : Log
   pub bytes : Log
   pub since : Since start before log bytes
-  pub done : Done (markOf before) start bytes e
+  pub done : Done (ownUntil before start) start bytes e
   pub last : e .kind ≡ Byte
 
 pub ends-of : (l : Link) (log : Log) (e : Event) → Behind l log e → Inv l log → Completes l e → Ends log e

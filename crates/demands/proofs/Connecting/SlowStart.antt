@@ -1,11 +1,10 @@
 -- The slow start: a byte completes a run from an address exactly if the address and its bytes are a good slow start with the run's key bytes, and on the way
 -- the place that is due is the one that the run's stage means. Both follow byte by byte: each of the five is right at its place exactly if it passes.
 -- Assumes nothing.
-use Prim.Native.Nat.{ℕ}
+use Prim.Native.Nat.{ℕ, _≤_}
 use mathlib.Core.Bool.{true, false, false≢true}
 use mathlib.Core.Path.{_≡_, _∙_, refl, sym, ap}
 use Rattle.base.specs.Choice.{if_then_else_}
-use Rattle.units.specs.declared.Micros.{Micros}
 use Rattle.keys.specs.Keys.{isGood}
 use Rattle.keys.specs.declared.Pair.{Pair}
 use Rattle.events.specs.declared.Kind.{Kind}
@@ -17,7 +16,6 @@ use Rattle.starts.specs.declared.Start.{Start}
 use Rattle.demands.specs.Logs.{Log, none, _▷_, eventsOf}
 use Rattle.demands.specs.Starts.{Right, sync, keyOne, keyTwo, keyBack, SlowStart, slow, dueSlow, dueFast, isAddress, due}
 use Rattle.demands.proofs.Connecting.Running.{fallBy, startOn, lastEnd, Starts, Runs, Done}
-use Rattle.demands.proofs.Connecting.Waking.{IdleSince, idle-time}
 use Rattle.demands.proofs.Connecting.Staged.{at, placeOf}
 use Rattle.demands.proofs.Connecting.Judging.{Passes, comes-next, on-first, on-next, on-last, way, done-good}
 
@@ -32,7 +30,7 @@ data SoFar (a : Event) : Log → Start → Type 0 where
       → Right (keyBack (two .value)) (two .end) back → SoFar a (none ▷ s ▷ one ▷ two ▷ back) (at (a .value) AddressBack x (one .value) (two .value))
 
 -- ---- from the run to the bytes
-first : (m : Micros) (a : Event) → a .kind ≡ Address → Starts Address m a → SoFar a none (slowStart (a .value))
+first : (m : ℕ) (a : Event) → a .kind ≡ Address → Starts Address m a → SoFar a none (slowStart (a .value))
 unfolding slowStart
 first m a k s = s0
 
@@ -59,7 +57,7 @@ finish a bs s b (s2 p1 p2) f z k = absurd (false≢true z)
 finish a bs s b (s3 p1 p2 p3) f z k = absurd (false≢true z)
 finish a bs s b (s4 p1 p2 p3 p4) f z k = slow k p1 p2 p3 p4 (comes-next refl f)
 
-pub slow-done : (m : Micros) (a : Event) (bs : Log) (b : Event) → a .kind ≡ Address → Done m a bs b
+pub slow-done : (m : ℕ) (a : Event) (bs : Log) (b : Event) → a .kind ≡ Address → Done m a bs b
     → SlowStart a (startOn a bs .pair) (bs ▷ b)
 slow-done m a bs b k d = done-good Address SoFar first one-more Good finish m a bs b k d k
 
@@ -72,14 +70,14 @@ place-by a bs s (s2 p1 p2) = refl
 place-by a bs s (s3 p1 p2 p3) = refl
 place-by a bs s (s4 p1 p2 p3 p4) = refl
 
-pub slow-place : (m : Micros) (a : Event) (bs : Log) → a .kind ≡ Address → Runs m a bs → due a (eventsOf bs) ≡ placeOf (startOn a bs)
+pub slow-place : (m : ℕ) (a : Event) (bs : Log) → a .kind ≡ Address → Runs m a bs → due a (eventsOf bs) ≡ placeOf (startOn a bs)
 unfolding due isAddress
 slow-place m a bs k r =
     ap (λ (x : Kind). if isAddress x then dueSlow (a .value) (eventsOf bs) else dueFast (eventsOf bs)) k
     ∙ place-by a bs (startOn a bs) (way Address SoFar first one-more m a bs k r)
 
 -- ---- and from the bytes to the run
-pub done-slow : (m : Micros) (a : Event) (pair : Pair) (bs : Log) (b : Event) → IdleSince m a → SlowStart a pair (bs ▷ b)
+pub done-slow : (m : ℕ) (a : Event) (pair : Pair) (bs : Log) (b : Event) → m ≤ a .start .0 → SlowStart a pair (bs ▷ b)
     → Done m a bs b × (startOn a bs .pair ≡ pair) × (isGood pair ≡ true)
 unfolding dueAt onward isLast slowStart
 done-slow m a pair bs b i (slow {s = s} {one = one} {two = two} {back = back} k p1 p2 p3 p4 p5) =
@@ -91,7 +89,7 @@ done-slow m a pair bs b i (slow {s = s} {one = one} {two = two} {back = back} k 
     let t2 = onward t1 (one .value) in
     let t3 = onward t2 (two .value) in
     let t4 = onward t3 (back .value) in
-    let o0 = on-first m a Address k (idle-time m (a .start) .1 i) in
+    let o0 = on-first m a Address k i in
     let o1 = on-next m a none t0 s (a .end) refl refl o0 p1 refl in
     let o2 = on-next m a b1 t1 one (s .end) refl refl o1 p2 refl in
     let o3 = on-next m a b2 t2 two (one .end) refl refl o2 p3 refl in

@@ -18,7 +18,7 @@ use Rattle.phases.specs.Phases.{isOpen, down, talking, settled}
 use Rattle.phases.proofs.StateTests.{open-or}
 use Rattle.moves.specs.Moves.{lossReason, isSilent}
 use Rattle.moves.specs.declared.Move.{Move}
-use Rattle.moves.proofs.Rules.{Moment, at-silence, at-p2, at-p3, at-window, at-closing, at-leaving, at-start, at-byte, at-stop, at-end, next}
+use Rattle.moves.proofs.Rules.{Moment, at-silence, at-p2, at-p3, at-window, at-closing, at-leaving, at-start, at-byte, at-stop, at-end, next, drops}
 use Rattle.moves.proofs.Rules.{Rule, rests, breaks-off, waited, idled, expires, cuts-off, aborts, leaves, starts-slow, starts-fast, hurries, low}
 use Rattle.moves.proofs.Rules.{strays, misses, connects, goes-on, opens, errs, breaks, frames, grows, stops}
 use Rattle.reports.specs.Reporting.{namesBytes, reportOf, told, moved}
@@ -104,6 +104,7 @@ module _ (l : Link) (e : Event) where
   rule at-closing w s m (aborts x) f = (tt, λ z. absurd (omega arith))
   rule at-leaving w s m (rests u) f = (tt, λ z. absurd (omega arith))
   rule at-leaving w s m (leaves c x) f = (tt, λ z. absurd (omega arith))
+  rule at-leaving w s m (drops d x) f = (tt, λ z. absurd (omega arith))
   rule at-start w s m (rests u) f = absurd u
   rule at-start w s m (starts-slow a i) f = (tt, λ z. absurd (omega arith))
   rule at-start w s m (starts-fast a i g) f = (tt, λ z. absurd (omega arith))
@@ -129,9 +130,9 @@ module _ (l : Link) (e : Event) where
   all-loses : Each IsLoss (handledTells l e)
   unfolding handledTells reportOf
   all-loses =
-      event-walk-by (l .mark) e (λ k s xs. S k s × Each IsLoss xs)
-      (λ k w s xs m u i. let x = rule k w s m u (i .0) in (x .0, each-both IsLoss xs (tells s m) (i .1) (tells-each IsLoss s m (λ _. x .1))))
-      (λ _ s xs i. (tt, i .1)) (λ _ s xs i. (tt, i .1)) (λ _ s xs i. (tt, i .1)) r (refl, each-none IsLoss) .1
+      event-walk-by (l .mark) e r (λ k s xs. S k s × Each IsLoss xs)
+      (λ k w s _ xs m u i. let x = rule k w s m u (i .0) in (x .0, each-both IsLoss xs (tells s m) (i .1) (tells-each IsLoss s m (λ _. x .1))))
+      (λ _ s xs i. (tt, i .1)) (λ _ s xs i. (tt, i .1)) (λ _ s xs i. (tt, i .1)) (refl, each-none IsLoss) .1
 
   -- ---- and the other way round
   record Lost : Type 0 where

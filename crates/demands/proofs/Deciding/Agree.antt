@@ -1,20 +1,28 @@
--- What is said of a history by a link's reports is the same for two links that reported alike so far (`Agree`): bytes held, sessions, initializations, first
--- bytes, messages. Assumes nothing.
-use Prim.Native.Nat.{ℕ, _-_, _<_}
+-- What is said of a history by a link's reports is the same for two links that reported alike so far (`Agree`): bytes held, sessions, the idle time before a start,
+-- initializations, first bytes, messages. Assumes nothing.
+use Prim.Native.Nat.{ℕ, _+_, _-_, _≤_, _<_}
 use mathlib.Core.List.{List, _++_}
 use mathlib.Core.Logic.{_⊎_}
 use mathlib.Core.Path.{_≡_, refl, sym, ap, _∙_, subst}
+use lib.Dec.{eqb}
 use lib.ListN.{length}
+use Rattle.base.specs.Choice.{if_then_else_}
+use Rattle.base.specs.Numbers.{taken}
 use Rattle.base.specs.Reports.{connectedReport, failedReport, downReport}
+use Rattle.base.proofs.Tests.{by-test}
+use Rattle.timing.specs.Timing.{idleAtPowerOn}
 use Rattle.events.specs.declared.Event.{Event}
 use Rattle.reports.specs.declared.Report.{Report}
-use Rattle.demands.specs.Logs.{Log, none, _▷_, heardIn, takenOf, Begins, whole, more}
+use Rattle.demands.specs.Logs.{Log, none, _▷_, markOf, heardIn, numberAfter, takenOf, Begins, whole, more}
 use Rattle.demands.specs.Refusals.{Not}
-use Rattle.demands.specs.Histories.{Machine, reportsTo, reportsOf, Says, Among}
+use Rattle.demands.specs.Histories.{Machine, reportsTo, reportsOf, folded, Says, Among}
 use Rattle.demands.specs.Accounts.{namedIn, heldIn}
-use Rattle.demands.specs.Sessions.{Talk, talkAfter, Session, opens, lasts, OpensIn, EarlyAt, StrayAt, gapBefore, IdleOver, Early, Stray, replyAt}
+use Rattle.demands.specs.Sessions.{Talk, inForce, talkAfter, Session, opens, lasts, OpensIn, EarlyAt, StrayAt, gapBefore, IdleOver, Early, Stray, replyAt}
+use Rattle.demands.specs.Idle.{latestAfter, latestTalk, p3minIn, idleAfter, isDrop, idleIn, askedAfter, idleAsked, idleUntil}
+use Rattle.demands.specs.Connecting.{Since, here, tick, byte, Connects}
 use Rattle.demands.specs.Endings.{Starting, starts, goes-on, AnswersStop}
 use Rattle.demands.specs.Messages.{OpensMessage, Speaks, begins, refused, waits, grows, EndsInFrame}
+use Rattle.demands.proofs.Histories.TakenOnly.{PassesOver, next-same}
 
 unfoldable pub Agree : Machine → Machine → Log → Type 0
 Agree s t none = Unit {0}
@@ -43,12 +51,67 @@ module _ (s t : Machine) where
       subst (λ (rs : List Report). Session t (es ▷ e) (talkAfter j (takenOf (es ▷ e)) rs)) (sym (a .1))
       (lasts (session-move es j (a .0) z) (subst (λ (rs : List Report). Not (Says downReport rs)) (a .1) n))
 
-  pub starting-move : (es : Log) → Agree s t es → Starting s es → Starting t es
+  -- ---- the idle time
+  talk-same : (log : Log) → Agree s t log → latestTalk s log ≡ latestTalk t log
+  unfolding Agree latestTalk
+  talk-same none a = refl
+  talk-same (log ▷ e) a =
+      ap (λ (k : Talk). folded (latestAfter (log ▷ e)) k (reportsTo s log e)) (talk-same log (a .0))
+      ∙ ap (folded (latestAfter (log ▷ e)) (latestTalk t log)) (a .1)
+
+  pub p3min-same : (log : Log) → Agree s t log → p3minIn s log ≡ p3minIn t log
+  unfolding p3minIn
+  p3min-same log a = ap (λ (k : Talk). inForce k .p3min) (talk-same log a)
+
+  pub idle-same : (log : Log) → Agree s t log → idleIn s log ≡ idleIn t log
+  unfolding Agree idleIn
+  idle-same none a = refl
+  idle-same (log ▷ e) a =
+      λ i. if isDrop (e .kind) then idleAtPowerOn else folded (idleAfter (p3min-same log (a .0) i)) (idle-same log (a .0) i) (a .1 i)
+
+  pub until-same : (log : Log) (e : Event) → Agree s t (log ▷ e) → idleUntil s log e ≡ idleUntil t log e
+  unfolding Agree idleAsked
+  until-same log e a i = markOf log .0 + folded (askedAfter (p3min-same log (a .0) i)) (idle-same log (a .0) i) (a .1 i) .0
+
+  -- ---- an initialization that is completed, on a log
+  pub since-agree : {a : Event} {before log bs : Log} → Since a before log bs → Agree s t log → Agree s t (before ▷ a)
   unfolding Agree
-  starting-move es a (starts n x i w) = starts n x i w
-  starting-move (es ▷ e) a (goes-on z c f) =
-      goes-on (starting-move es (a .0) z) (subst (λ (rs : List Report). Not (Says connectedReport rs)) (a .1) c)
-      (subst (λ (rs : List Report). Not (Says failedReport rs)) (a .1) f)
+  since-agree here g = g
+  since-agree (tick k z) g = since-agree z (g .0)
+  since-agree (byte k z) g = since-agree z (g .0)
+
+  abbrev pub connects-move : (log : Log) (e : Event) → Agree s t log → Connects s log e → Connects t log e
+  connects-move log e a c = record {
+    start = c .start;
+    before = c .before;
+    bytes = c .bytes;
+    pair = c .pair;
+    since = c .since;
+    idle = subst (λ (k : ℕ). k ≤ c .start .start .0) (until-same (c .before) (c .start) (since-agree (c .since) a)) (c .idle);
+    last = c .last;
+    good = c .good;
+  }
+
+  -- ---- refused events passed over
+  module _ (passes : PassesOver s) (passes′ : PassesOver t) where
+    pub next-agrees : (es : Log) (e : Event) → reportsTo s es e ≡ reportsTo t es e → reportsTo s (takenOf es) e ≡ reportsTo t (takenOf es) e
+    next-agrees es e q = next-same s passes es e ∙ q ∙ sym (next-same t passes′ es e)
+
+    pub agree-taken : (es : Log) → Agree s t es → Agree s t (takenOf es)
+    unfolding Agree takenOf
+    agree-taken none a = tt
+    agree-taken (es ▷ e) a =
+        by-test (Agree s t) (eqb (numberAfter (takenOf es) e) taken) {x = takenOf es ▷ e} {y = takenOf es} (λ _. (agree-taken es (a .0), next-agrees es e (a .1)))
+        (λ _. agree-taken es (a .0))
+
+    pub starting-move : (es : Log) → Agree s t es → Starting s es → Starting t es
+    unfolding Agree
+    starting-move (es ▷ e) a (starts n x i w) =
+        let q = until-same (takenOf es) e (agree-taken es (a .0), next-agrees es e (a .1)) in
+        starts n x (λ y. i (y .0, subst (λ (k : ℕ). e .start .0 < k) (sym q) (y .1))) (λ y. w (y .0, subst (λ (k : ℕ). k ≤ e .start .0) (sym q) (y .1), y .2))
+    starting-move (es ▷ e) a (goes-on z c f) =
+        goes-on (starting-move es (a .0) z) (subst (λ (rs : List Report). Not (Says connectedReport rs)) (a .1) c)
+        (subst (λ (rs : List Report). Not (Says failedReport rs)) (a .1) f)
 
   pub opens-move : (es : Log) (b : Event) (k : Talk) → Agree s t es → OpensIn s es b k → OpensIn t es b k
   opens-move es b k a o =

@@ -73,7 +73,7 @@ module _ (B : Both) where
     by-reason (suc (suc (suc (suc zero)))) h x = restarts x
     by-reason (suc (suc (suc (suc (suc n))))) h x = absurd (omega arith)
 
-  downs-too : (n : ℕ) → (1 ≤ n) × (n ≤ 4) → Moves n
+  pub downs-too : (n : ℕ) → (1 ≤ n) × (n ≤ 4) → Moves n
   downs-too n h x =
       let y = B .D .two .only-in-session (B .es) (B .e) (before B) (inr (tells-says downReport n (here B) x)) in
       by-reason (y .talk) (y .session) n h x
@@ -94,7 +94,7 @@ module _ (B : Both) where
         x .0,
         x .1,
         ⊎-elim (λ o. inl ((λ z. o .0 (record { talk = z .talk; session = session-too (turned B) (z .talk) (z .session) })), (λ z. o .1 (starts-too (turned B) z))))
-            (λ o. inr (⊎-elim (λ w. inl (fails-too B windowOver (omega arith, omega arith) w)) (λ w. inr (downs-too B idleOver (omega arith, omega arith) w)) o))
+            (λ o. inr (⊎-elim (λ w. inl (fails-too B windowOver (omega arith, omega arith) (λ z. omega arith) w)) (λ w. inr (downs-too B idleOver (omega arith, omega arith) w)) o))
             (x .2),
       ) in
       let y = says-speaks outsideReport (there B) says in

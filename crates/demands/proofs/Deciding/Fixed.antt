@@ -125,25 +125,26 @@ says number rs = by (isAmong number rs) refl
 low : (e : Event) → Decided (Low e)
 low e = both (at-most (e .start .0 + 24_000) (e .end .0)) (at-most (e .end .0) (e .start .0 + 26_000))
 
-record New (es : Log) (e : Event) : Type 0 where
-  pub number : numberAfter (takenOf es) e ≡ taken
-  pub starter : Starter e
-  pub idle : Not (NotIdle (takenOf es) e)
-  pub low : Not (WrongLow (takenOf es) e)
-
-new : (es : Log) (e : Event) → Decided (New es e)
-new es e = all (equal (numberAfter (takenOf es) e) taken) (kind-starts (e .kind))
-    (never (both (kind-starts (e .kind)) (less (e .start .0) (idleUntil (takenOf es)))))
-    (never (all-three (kind-wakes (e .kind)) (at-most (idleUntil (takenOf es)) (e .start .0)) (never (low e))))
-  where
-    all : Decided (numberAfter (takenOf es) e ≡ taken) → Decided (Starter e) → Decided (Not (NotIdle (takenOf es) e)) → Decided (Not (WrongLow (takenOf es) e)) → Decided (New es e)
-    all (inr n) b c d = inr (λ x. n (x .number))
-    all (inl a) (inr n) c d = inr (λ x. n (x .starter))
-    all (inl a) (inl b) (inr n) d = inr (λ x. n (x .idle))
-    all (inl a) (inl b) (inl c) (inr n) = inr (λ x. n (x .low))
-    all (inl a) (inl b) (inl c) (inl d) = inl (record { number = a; starter = b; idle = c; low = d })
-
 module _ (m : Machine) where
+  record New (es : Log) (e : Event) : Type 0 where
+    pub number : numberAfter (takenOf es) e ≡ taken
+    pub starter : Starter e
+    pub idle : Not (NotIdle m (takenOf es) e)
+    pub low : Not (WrongLow m (takenOf es) e)
+
+  new : (es : Log) (e : Event) → Decided (New es e)
+  new es e = all (equal (numberAfter (takenOf es) e) taken) (kind-starts (e .kind))
+      (never (both (kind-starts (e .kind)) (less (e .start .0) (idleUntil m (takenOf es) e))))
+      (never (all-three (kind-wakes (e .kind)) (at-most (idleUntil m (takenOf es) e) (e .start .0)) (never (low e))))
+    where
+      all : Decided (numberAfter (takenOf es) e ≡ taken) → Decided (Starter e) → Decided (Not (NotIdle m (takenOf es) e))
+          → Decided (Not (WrongLow m (takenOf es) e)) → Decided (New es e)
+      all (inr n) b c d = inr (λ x. n (x .number))
+      all (inl a) (inr n) c d = inr (λ x. n (x .starter))
+      all (inl a) (inl b) (inr n) d = inr (λ x. n (x .idle))
+      all (inl a) (inl b) (inl c) (inr n) = inr (λ x. n (x .low))
+      all (inl a) (inl b) (inl c) (inl d) = inl (record { number = a; starter = b; idle = c; low = d })
+
   not-fresh : Starting m none → ⊥
   not-fresh z = elim z [ ]
 
@@ -217,32 +218,32 @@ module _ (m : Machine) (D : Meets m) where
   grown es e = omega (arith, named-append (reportsOf m es) (reportsTo m es e))
 
   -- where an initialization is completed, no byte was named since its start, and all are named then
-  module _ (es : Log) (e : Event) (n : numberAfter (takenOf es) e ≡ taken) (c : Connects (takenOf es) e) where
+  module _ (es : Log) (e : Event) (b : InBytes es) (n : numberAfter (takenOf es) e ≡ taken) (c : Connects m (takenOf es) e) where
     none-named : namedIn (reportsOf m es) ≡ length (heardOf (c .before))
     unfolding reportsOf
     none-named =
         let i = turn-behind 0 (reportsOf m es) (reportsTo m es e) (D .three .accounted (es ▷ e) .indexes) in
-        let j = turn-first (subst (InTurn (0 + namedIn (reportsOf m es))) (D .two .connects-names es e n c .reports) i) in
+        let j = turn-first (subst (InTurn (0 + namedIn (reportsOf m es))) (D .two .connects-names es e b n c .reports) i) in
         omega (arith, j)
 
     all-named : namedIn (reportsOf m (es ▷ e)) ≡ length (heardOf (takenOf es)) + 1
     unfolding reportsOf namedIn
     all-named =
-        let r = ap namedIn (D .two .connects-names es e n c .reports) in
+        let r = ap namedIn (D .two .connects-names es e b n c .reports) in
         omega (arith, named-append (reportsOf m es) (reportsTo m es e), r, none-named, since-heard (not-byte (c .start) (starter (c .good))) (c .since))
 
   -- a report 3 is made where an initialization is completed
-  opened : (es : Log) (e : Event) (r : Report) → Among r (reportsTo m es e) → r .number ≡ connectedReport → OpenedBy es e r
-  opened = report-opens m (D .two .connects-exactly) (D .two .connects-names)
+  opened : (es : Log) (e : Event) (r : Report) → InBytes es → Among r (reportsTo m es e) → r .number ≡ connectedReport → OpenedBy (idleUntil m) es e r
+  opened es e r b = report-opens (idleUntil m) m es e (D .two .connects-exactly es e b) (D .two .connects-names es e b) r
 
   -- no session lasts over a start of which no byte is named yet
   no-session : (es : Log) (t : Talk) (s : Event) (before bs : Log) → InBytes es → Session m es t → Starter s → Since s before (takenOf es) bs
       → namedIn (reportsOf m es) ≤ length (heardOf before) → ⊥
   unfolding InBytes
   no-session es t s before bs b (opens {es = es1} {e = e} {r = r} a q) st z h =
-      let x = opened es1 e r a q in
+      let x = opened es1 e r (b .0) a q in
       let y = subst (λ (l : Log). Since s before l bs) (log-taken es1 e (x .number)) z in
-      omega (arith, since-before y, all-named es1 e (x .number) (x .connects), h)
+      omega (arith, since-before y, all-named es1 e (b .0) (x .number) (x .connects), h)
   no-session es t s before bs b (lasts {es = es1} {e = e} {t = t1} x d) st z h =
       by-number (eqb (numberAfter (takenOf es1) e) taken) refl (λ cs y k. no-session es1 t1 s before cs (b .0) x st y k)
     where
@@ -260,19 +261,19 @@ module _ (m : Machine) (D : Meets m) where
           ⊎-elim (λ y. at-start q (subst Starter (y .0) st)) (λ y. f (y .bytes) (y .since) (omega (arith, grown es1 e, h)))
           (since-last (subst (λ (l : Log). Since s before l bs) (log-taken es1 e q) z))
 
-  not-both : (es : Log) (e : Event) (r : Report) (t : Talk) → InBytes es → OpenedBy es e r → Session m es t → ⊥
+  not-both : (es : Log) (e : Event) (r : Report) (t : Talk) → InBytes es → OpenedBy (idleUntil m) es e r → Session m es t → ⊥
   not-both es e r t b o x =
       let c = o .connects in
-      no-session es t (c .start) (c .before) (c .bytes) b x (starter (c .good)) (c .since) (omega (arith, none-named es e (o .number) c))
+      no-session es t (c .start) (c .before) (c .bytes) b x (starter (c .good)) (c .since) (omega (arith, none-named es e b (o .number) c))
 
   -- A HISTORY FIXES ITS TALK
   pub session-fixed : (es : Log) (j k : Talk) → InBytes es → Session m es j → Session m es k → j ≡ k
   unfolding InBytes
   session-fixed es j k b (opens {es = es1} {e = e} {r = r} i n) (opens {r = s} o d) =
-      let x = opened es1 e r i n in
-      let same : r ≡ s = x .only ∙ sym (only-one (subst (Among s) (D .two .connects-names es1 e (x .number) (x .connects) .reports) o)) in
+      let x = opened es1 e r (b .0) i n in
+      let same : r ≡ s = x .only ∙ sym (only-one (subst (Among s) (D .two .connects-names es1 e (b .0) (x .number) (x .connects) .reports) o)) in
       ap (λ (q : Report). openedBy (namedBy (heardIn (es1 ▷ e)) q)) same
-  session-fixed es j k b (opens {es = es1} {e = e} {r = r} i n) (lasts {t = t} y z) = absurd (not-both es1 e r t (b .0) (opened es1 e r i n) y)
-  session-fixed es j k b (lasts {es = es1} {e = e} {t = t} x w) (opens {r = s} o d) = absurd (not-both es1 e s t (b .0) (opened es1 e s o d) x)
+  session-fixed es j k b (opens {es = es1} {e = e} {r = r} i n) (lasts {t = t} y z) = absurd (not-both es1 e r t (b .0) (opened es1 e r (b .0) i n) y)
+  session-fixed es j k b (lasts {es = es1} {e = e} {t = t} x w) (opens {r = s} o d) = absurd (not-both es1 e s t (b .0) (opened es1 e s (b .0) o d) x)
   session-fixed es j k b (lasts {es = es1} {e = e} {t = t} x w) (lasts {t = u} y z) =
       ap (λ (v : Talk). talkAfter v (takenOf (es1 ▷ e)) (reportsTo m es1 e)) (session-fixed es1 t u (b .0) x y)

@@ -10,6 +10,7 @@ use Rattle.demands.specs.Logs.{Log, none, _▷_, InBytes}
 use Rattle.demands.specs.Histories.{Machine, reportsTo, Among, Tells}
 use Rattle.demands.specs.Each.{Formed}
 use Rattle.demands.specs.Deciding.{Meets}
+use Rattle.demands.proofs.Histories.TakenOnly.{PassesOver, demand-passes}
 use Rattle.demands.proofs.Deciding.Agree.{Agree}
 use Rattle.demands.proofs.Deciding.SameList.{Has}
 
@@ -38,6 +39,13 @@ unfolding InBytes
 before B = B .inBytes .0
 
 module _ (B : Both) where
+  -- both pass over events that are refused
+  pub passes-here : PassesOver (B .s)
+  passes-here = demand-passes (B .s) (B .D .one)
+
+  pub passes-there : PassesOver (B .t)
+  passes-there = demand-passes (B .t) (B .E .one)
+
   -- the reports of one and of the other
   abbrev pub here : List Report
   here = reportsTo (B .s) (B .es) (B .e)

@@ -2,10 +2,10 @@
 -- wake-up of a wrong low, report 6 exactly where a first reply stayed out, and report 7 by its reason exactly where P3 max passed, at a drop, and at a
 -- restart; 6 and 7 come in a session only. (Report 7 reason 1 is `stops-exactly`.)
 -- Assumes nothing.
-use Prim.Native.Nat.{ℕ, _≤_, _<_}
+use Prim.Native.Nat.{ℕ, _+_, _≤_, _<_}
 use mathlib.Core.Bool.{Bool, true, false, false≢true}
 use mathlib.Core.Path.{_≡_, refl, sym, ap, _∙_}
-use mathlib.Core.Logic.{_↔_, _⊎_, ⊎-elim}
+use mathlib.Core.Logic.{_↔_, _⊎_, inr, ⊎-elim}
 use native.Mathlib.Omega.{arith}
 use borrow.Author.Tests.{eqb-true, eqb-false}
 use lib.Dec.{eqb}
@@ -22,23 +22,26 @@ use Rattle.talk.specs.Talk.{isFirst}
 use Rattle.talk.specs.declared.Reply.{Reply}
 use Rattle.talk.specs.declared.Reply.the-variants.{Never, First, Further}
 use Rattle.phases.specs.Phases.{isQuiet}
-use Rattle.moves.specs.Moves.{isIdle, isGoodLow}
+use Rattle.moves.specs.Moves.{isGoodLow}
 use Rattle.link.specs.declared.Link.{Link}
 use Rattle.listing.specs.Listing.{heldOf}
 use Rattle.phases.proofs.StateTests.{quiet-connected, open-or, quiet-shut}
-use Rattle.demands.specs.Logs.{Log, markOf, numberAfter, takenOf, InBytes}
+use Rattle.demands.specs.Logs.{Log, numberAfter, takenOf, InBytes}
 use Rattle.demands.specs.Idle.{idleUntil}
 use Rattle.demands.specs.Refusals.{Not}
 use Rattle.demands.specs.Histories.{after, reportsTo, Says, Tells}
 use Rattle.demands.specs.Starts.{Low}
 use Rattle.demands.specs.Sessions.{Talk, Session, inForce, gapBefore, SomeSession, replyOnceEnded, NoReply, IdleOver}
 use Rattle.demands.specs.Accounts.{heldIn}
-use Rattle.demands.specs.Endings.{NotIdle, WrongLow, Downs}
+use Rattle.demands.specs.Endings.{Starter, NotIdle, WrongLow, Downs}
 use Rattle.demands.proofs.Connecting.Waking.{not-idle-time, idle-time, good-low}
 use Rattle.demands.proofs.Histories.Holding.{holds-some, holds-none}
 use Rattle.demands.proofs.Histories.Invariant.{kept-of}
 use Rattle.demands.proofs.Histories.Basics.{basics, held-is}
 use Rattle.demands.proofs.Sessions.SessionExactly.{session-link, session-exactly}
+use Rattle.demands.proofs.Connecting.ConnectsExactly.{behind}
+use Rattle.demands.proofs.IdleTimes.IdleLink.{asked-link}
+use Rattle.demands.proofs.Moves.Entering.{judging, hasIdled}
 use Rattle.demands.proofs.Moves.TimePasses.{Waited, Idled, Lasts}
 use Rattle.demands.proofs.Moves.Causes.{of-low, waits-made, idles-made, dropped-made, restarted-made, not-idle-made, low-made}
 use Rattle.demands.proofs.Histories.ReportsMade.{long-of, tells-caused, says-caused, made-at, says-made}
@@ -53,40 +56,50 @@ wrong-low e = (λ f w. false≢true (sym f ∙ good-low e .1 w), by-test-of (isG
     by-test-of true g n = absurd (n (good-low e .0 g))
     by-test-of false g n = g
 
--- the link's mark is the history's
-pub mark-not-idle : (es : Log) (e : Event) → (isIdle (after ours es .link .mark) (e .start) ≡ false) ↔ (e .start .0 < idleUntil (takenOf es))
-mark-not-idle es e =
-    let m = ap (λ (x : Micros). isIdle x (e .start)) (basics es .mark) in
-    let t = not-idle-time (markOf (takenOf es)) (e .start) in
-    (λ i. t .0 (sym m ∙ i), λ h. m ∙ t .1 h)
+-- the time from which the link lets a start come is the history's
+module _ (es : Log) (e : Event) (b : InBytes es) (q : numberAfter (takenOf es) e ≡ taken) (a : Starter e) where
+  abbrev now : Link
+  now = after ours es .link
 
-pub mark-idle : (es : Log) (e : Event) → (isIdle (after ours es .link .mark) (e .start) ≡ true) ↔ (idleUntil (takenOf es) ≤ e .start .0)
-mark-idle es e =
-    let m = ap (λ (x : Micros). isIdle x (e .start)) (basics es .mark) in
-    let t = idle-time (markOf (takenOf es)) (e .start) in
-    (λ i. t .0 (sym m ∙ i), λ h. m ∙ t .1 h)
+  same-time : now .mark .0 + judging now e .idle .0 ≡ idleUntil ours (takenOf es) e
+  same-time = omega (arith, ap (λ (m : Micros). m .0) (basics es .mark), ap (λ (m : Micros). m .0) (asked-link es e b q a))
+
+  in-order : now .mark .0 ≤ e .start .0
+  in-order = let t = behind es e q in omega (arith, t .order, t .later)
+
+  pub link-not-idle : (hasIdled now e ≡ false) ↔ (e .start .0 < idleUntil ours (takenOf es) e)
+  link-not-idle =
+      let t = not-idle-time (judging now e .idle) (now .mark) (e .start) in-order in
+      (λ i. omega (arith, same-time, t .0 i), λ h. t .1 (omega (arith, same-time, h)))
+
+  pub link-idle : (hasIdled now e ≡ true) ↔ (idleUntil ours (takenOf es) e ≤ e .start .0)
+  link-idle =
+      let t = idle-time (judging now e .idle) (now .mark) (e .start) in-order in
+      (λ i. omega (arith, same-time, t .0 i), λ h. t .1 (omega (arith, same-time, h)))
 
 -- NOT IDLE
-pub not-idle-exactly : (es : Log) (e : Event)
-    → Says notIdleReport (reportsTo ours es e) ↔ ((numberAfter (takenOf es) e ≡ taken) × NotIdle (takenOf es) e)
-not-idle-exactly es e = (
+pub not-idle-exactly : (es : Log) (e : Event) → InBytes es
+    → Says notIdleReport (reportsTo ours es e) ↔ ((numberAfter (takenOf es) e ≡ taken) × NotIdle ours (takenOf es) e)
+not-idle-exactly es e b = (
   λ s.
       let x = says-caused es e notIdleReport s .caused in
-      (x .number-is, (x .cause .0, mark-not-idle es e .0 (x .cause .1))),
-  λ c. says-made es e notIdleReport noReason (c .0) (not-idle-made (after ours es .link) e (c .1 .0) (mark-not-idle es e .1 (c .1 .1))),
+      (x .number-is, (x .cause .0, link-not-idle es e b (x .number-is) (x .cause .0) .0 (x .cause .1))),
+  λ c.
+      let i = link-not-idle es e b (c .0) (c .1 .0) .1 (c .1 .1) in
+      says-made es e notIdleReport noReason (c .0) (not-idle-made (after ours es .link) e (c .1 .0) i),
 )
 
 -- A WRONG LOW
-pub wrong-low-exactly : (es : Log) (e : Event)
-    → Tells failedReport wrongLow (reportsTo ours es e) ↔ ((numberAfter (takenOf es) e ≡ taken) × WrongLow (takenOf es) e)
-wrong-low-exactly es e = (
+pub wrong-low-exactly : (es : Log) (e : Event) → InBytes es
+    → Tells failedReport wrongLow (reportsTo ours es e) ↔ ((numberAfter (takenOf es) e ≡ taken) × WrongLow ours (takenOf es) e)
+wrong-low-exactly es e b = (
   λ s.
       let x = tells-caused es e failedReport wrongLow s in
       let c = of-low _ e (x .cause) refl in
-      (x .number-is, (c .0, mark-idle es e .0 (c .1), wrong-low e .0 (c .2))),
+      (x .number-is, (c .0, link-idle es e b (x .number-is) (inr (c .0)) .0 (c .1), wrong-low e .0 (c .2))),
   λ c.
       made-at es e failedReport wrongLow (c .0)
-      (low-made (after ours es .link) e (c .1 .0) (mark-idle es e .1 (c .1 .1)) (wrong-low e .1 (c .1 .2))),
+      (low-made (after ours es .link) e (c .1 .0) (link-idle es e b (c .0) (inr (c .1 .0)) .1 (c .1 .1)) (wrong-low e .1 (c .1 .2))),
 )
 
 -- ---- in a session: the reply, the windows and the bytes held are the link's

@@ -34,7 +34,7 @@ use Rattle.phases.specs.declared.State.the-variants.{Down, Starting, Quiet, Hel
 use Rattle.phases.specs.declared.Phase.{Phase}
 use Rattle.moves.specs.Moves.{lossReason, reasonAtFirst}
 use Rattle.moves.specs.declared.Move.{Move}
-use Rattle.moves.proofs.Rules.{Moment, Closes, by-drop, by-address, by-wake-up, Rule}
+use Rattle.moves.proofs.Rules.{Moment, Closes, by-drop, by-address, by-wake-up, Rule, drops}
 use Rattle.moves.proofs.Rules.{rests, breaks-off, waited, idled, expires, cuts-off, aborts, leaves, starts-slow, starts-fast, hurries, low}
 use Rattle.moves.proofs.Rules.{strays, misses, connects, goes-on, opens, errs, breaks, frames, grows, stops}
 use Rattle.reports.specs.Reporting.{namesBytes, reportOf, told, moved}
@@ -180,6 +180,7 @@ rule-fits mark e p k m (expires s o) w = ((omega arith, omega arith), tt)
 rule-fits mark e p k m (cuts-off o) w = (loss-in (p .state) closed _ o w (omega arith, omega arith), tt)
 rule-fits mark e p k m (aborts s) w = ((omega arith, omega arith), tt)
 rule-fits mark e p k m (leaves c q) w = (closes-for c, tt)
+rule-fits mark e p k m (drops d x) w = ((omega arith, omega arith), tt)
 rule-fits mark e p k m (starts-slow a i) w = ((omega arith, omega arith), tt)
 rule-fits mark e p k m (starts-fast a i l) w = ((omega arith, omega arith), tt)
 rule-fits mark e p k m (hurries s i) w = ((omega arith, omega arith), tt)

@@ -30,7 +30,7 @@ use Rattle.phases.specs.declared.Phase.{Phase}
 use Rattle.moves.specs.Moves.{sinceOrigin}
 use Rattle.link.specs.Telling.{handledTells}
 use Rattle.link.specs.declared.Link.{Link}
-use Rattle.demands.specs.Logs.{Log, none, _▷_, markOf, numberAfter, takenOf, eventsOf}
+use Rattle.demands.specs.Logs.{Log, none, _▷_, markOf, numberAfter, takenOf, eventsOf, InBytes}
 use Rattle.demands.specs.Refusals.{Not}
 use Rattle.demands.specs.Histories.{after, reportsTo, isAmong, Says, Tells}
 use Rattle.demands.specs.Connecting.{Since, here, tick, byte}
@@ -51,7 +51,7 @@ use Rattle.demands.proofs.Moves.Causes.{isCloser, no-closer, no-byte, f
 use Rattle.demands.proofs.Moves.Causes.{Fails as FailsBy}
 use Rattle.demands.proofs.Histories.ReportsMade.{tells-caused, says-caused, made-at}
 use Rattle.demands.proofs.Endings.StartingExactly.{lets-none, starting-exactly, over-told}
-use Rattle.demands.proofs.Connecting.Running.{firstBy, fallBy, startOn, phaseOn, lastEnd, Starts, Runs, runs-starts, runs-mark, since-mark}
+use Rattle.demands.proofs.Connecting.Running.{firstBy, fallBy, startOn, phaseOn, lastEnd, Starts, ownUntil, Runs, runs-starts, runs-mark, since-mark}
 use Rattle.demands.specs.Ours.{ours}
 
 -- ---- a log has no two initializations under way
@@ -74,7 +74,7 @@ since-only s t (byte {e = e} j v) (tick k w) = absurd (no-byte e Tick refl k j)
 since-only s t (byte {e = e} j v) (byte k w) = more-same e (since-only s t v w)
 
 -- ---- what is due next, as the link's phase has it: the place that its stage means, ..
-due-at : (m : Micros) (a : Event) (bs : Log) → Starter a → Runs m a bs → Means (startOn a bs) (due a (eventsOf bs))
+due-at : (m : ℕ) (a : Event) (bs : Log) → Starter a → Runs m a bs → Means (startOn a bs) (due a (eventsOf bs))
 due-at m a bs s r =
     subst (Means (startOn a bs)) (sym (⊎-elim (λ k. slow-place m a bs k r) (λ k. fast-place m a bs k r) s)) (means (startOn a bs))
 
@@ -118,7 +118,7 @@ from-same a none (inr k) =
 from-same a (bs ▷ b) s = rw (opens-none (startOn a bs .stage) (startOn a bs) (b .value)) refl
 
 -- a wake-up falls before it rises
-starts-first : (k : Kind) (m : Micros) (a : Event) → a .kind ≡ k → Starts k m a → dueFrom a none .0 ≤ a .end .0
+starts-first : (k : Kind) (m : ℕ) (a : Event) → a .kind ≡ k → Starts k m a → dueFrom a none .0 ≤ a .end .0
 unfolding dueFrom isAddress
 starts-first Address m a k s = omega (arith, ap (λ (x : Kind). (if isAddress x then a .end else a .start) .0) k)
 starts-first WakeUp m a k s = omega (arith, ap (λ (x : Kind). (if isAddress x then a .end else a .start) .0) k, good-low a .0 (s .1) .0)
@@ -127,12 +127,12 @@ starts-first Tick m a k s = absurd s
 starts-first Drop m a k s = absurd s
 starts-first Other m a k s = absurd s
 
-from-first : (m : Micros) (a : Event) (bs : Log) → Runs m a bs → dueFrom a bs .0 ≤ lastEnd a bs .0
+from-first : (m : ℕ) (a : Event) (bs : Log) → Runs m a bs → dueFrom a bs .0 ≤ lastEnd a bs .0
 unfolding dueFrom
 from-first m a none r = starts-first (a .kind) m a refl r
 from-first m a (bs ▷ b) r = omega arith
 
-starter-by : (k : Kind) (m : Micros) (a : Event) → a .kind ≡ k → Starts k m a → Starter a
+starter-by : (k : Kind) (m : ℕ) (a : Event) → a .kind ≡ k → Starts k m a → Starter a
 starter-by Address m a k s = inl k
 starter-by WakeUp m a k s = inr k
 starter-by Byte m a k s = absurd s
@@ -140,7 +140,7 @@ starter-by Tick m a k s = absurd s
 starter-by Drop m a k s = absurd s
 starter-by Other m a k s = absurd s
 
-starter-of : (m : Micros) (a : Event) (bs : Log) → Runs m a bs → Starter a
+starter-of : (m : ℕ) (a : Event) (bs : Log) → Runs m a bs → Starter a
 starter-of m a bs r = starter-by (a .kind) m a refl (runs-starts m a bs r)
 
 -- ---- the tests of a byte, one by one
@@ -174,29 +174,29 @@ wrong-by l e (falls-short w i g) h = absurd (omega arith)
 wrong-by l e (wrong i o b m) h = (o, b, refl)
 
 -- ---- where the link is: at what the start and the bytes have come to
-pub under-way : (es : Log) → Starting ours es → UnderWay (takenOf es)
-under-way es s =
-    let g = inv-of es .forth (starting-exactly es .1 s) in
-    record { start = g .start; before = g .before; bytes = g .bytes; starter = starter-of (markOf (g .before)) (g .start) (g .bytes) (g .runs); since = g .since }
+pub under-way : (es : Log) → InBytes es → Starting ours es → UnderWay (takenOf es)
+under-way es b s =
+    let g = inv-of es .forth (starting-exactly es b .1 s) in
+    record { start = g .start; before = g .before; bytes = g .bytes; starter = starter-of (ownUntil (g .before) (g .start)) (g .start) (g .bytes) (g .runs); since = g .since }
 
-runs-same : {a c : Event} {before earlier bs cs : Log} {p : Phase} → Same a before bs c earlier cs → Runs (markOf before) a bs → p ≡ phaseOn a bs
-    → Runs (markOf earlier) c cs × (p ≡ phaseOn c cs)
+runs-same : {a c : Event} {before earlier bs cs : Log} {p : Phase} → Same a before bs c earlier cs → Runs (ownUntil before a) a bs → p ≡ phaseOn a bs
+    → Runs (ownUntil earlier c) c cs × (p ≡ phaseOn c cs)
 runs-same same-way r q = (r, q)
 
-module _ (es : Log) (s : Starting ours es) (u : UnderWay (takenOf es)) where
+module _ (es : Log) (inBytes : InBytes es) (s : Starting ours es) (u : UnderWay (takenOf es)) where
   abbrev l : Link
   l = after ours es .link
 
   inside : In (l .phase)
-  inside = starting-exactly es .1 s
+  inside = starting-exactly es inBytes .1 s
 
-  runs-at : Runs (markOf (u .before)) (u .start) (u .bytes) × (l .phase ≡ phaseOn (u .start) (u .bytes))
+  runs-at : Runs (ownUntil (u .before) (u .start)) (u .start) (u .bytes) × (l .phase ≡ phaseOn (u .start) (u .bytes))
   runs-at =
       let g = inv-of es .forth inside in
-      runs-same (since-only (starter-of (markOf (g .before)) (g .start) (g .bytes) (g .runs)) (u .starter) (g .since) (u .since)) (g .runs) (g .phase)
+      runs-same (since-only (starter-of (ownUntil (g .before) (g .start)) (g .start) (g .bytes) (g .runs)) (u .starter) (g .since) (u .since)) (g .runs) (g .phase)
 
   mark-at : l .mark ≡ lastEnd (u .start) (u .bytes)
-  mark-at = basics es .mark ∙ since-mark (runs-mark (markOf (u .before)) (u .start) (u .bytes) (runs-at .0)) (u .since)
+  mark-at = basics es .mark ∙ since-mark (runs-mark (ownUntil (u .before) (u .start)) (u .start) (u .bytes) (runs-at .0)) (u .since)
 
   abbrev soFar : Start
   soFar = startOn (u .start) (u .bytes)
@@ -206,7 +206,7 @@ module _ (es : Log) (s : Starting ours es) (u : UnderWay (takenOf es)) where
   start-at = ap (λ (p : Phase). p .start) (runs-at .1)
 
   due-now : Means soFar (dueNow u)
-  due-now = due-at (markOf (u .before)) (u .start) (u .bytes) (u .starter) (runs-at .0)
+  due-now = due-at (ownUntil (u .before) (u .start)) (u .start) (u .bytes) (u .starter) (runs-at .0)
 
   module _ (e : Event) where
     abbrev gap : Micros
@@ -242,7 +242,7 @@ module _ (es : Log) (s : Starting ours es) (u : UnderWay (takenOf es)) where
     unfolding isEarly
     early-at n =
         let b = behind es e n in
-        let first = from-first (markOf (u .before)) (u .start) (u .bytes) (runs-at .0) in
+        let first = from-first (ownUntil (u .before) (u .start)) (u .start) (u .bytes) (runs-at .0) in
         let soon = dueAt (soFar .stage) .earliest .0 in
         let d = due-now .earliest in
         let o : from u .0 ≤ e .start .0 = omega (arith, first, ap (λ (x : Micros). x .0) mark-at, b .order, b .later) in (
@@ -358,23 +358,23 @@ module _ (es : Log) (s : Starting ours es) (u : UnderWay (takenOf es)) where
         goes-on s (λ t. no-byte e Tick refl k (succeeds .0 t .0 .1)) (no-failure o (ap isCloser k) (λ b. absurd (no-byte e Tick refl k b)))
 
 -- HOW IT FAILS
-pub fails-exactly : (es : Log) (e : Event) → Starting ours es → (u : UnderWay (takenOf es)) → Fails ours es e u
-fails-exactly es e s u = record {
-  over = fails-over es s u e;
-  side = fails-side es s u e;
-  early = fails-early es s u e;
-  value = fails-value es s u e;
-  connects = succeeds es s u e;
-  goes = goes-by es s u e;
-  waits = waits-by es s u e;
+pub fails-exactly : (es : Log) (e : Event) → InBytes es → Starting ours es → (u : UnderWay (takenOf es)) → Fails ours es e u
+fails-exactly es e b s u = record {
+  over = fails-over es b s u e;
+  side = fails-side es b s u e;
+  early = fails-early es b s u e;
+  value = fails-value es b s u e;
+  connects = succeeds es b s u e;
+  goes = goes-by es b s u e;
+  waits = waits-by es b s u e;
 }
 
 -- ---- outside of an initialization
-low-only : (es : Log) (e : Event) {k : ℕ} → Not (Starting ours es) → FailsBy (after ours es .link) e k → k ≡ wrongLow
-low-only es e n (runs-out o) = absurd (n (starting-exactly es .0 (o .0)))
-low-only es e n (closes i o c) = absurd (n (starting-exactly es .0 i))
-low-only es e n (falls-short w i g) = refl
-low-only es e n (wrong i o b m) = absurd (n (starting-exactly es .0 i))
+low-only : (es : Log) (e : Event) {k : ℕ} → InBytes es → Not (Starting ours es) → FailsBy (after ours es .link) e k → k ≡ wrongLow
+low-only es e b n (runs-out o) = absurd (n (starting-exactly es b .0 (o .0)))
+low-only es e b n (closes i o c) = absurd (n (starting-exactly es b .0 i))
+low-only es e b n (falls-short w i g) = refl
+low-only es e b n (wrong i o k m) = absurd (n (starting-exactly es b .0 i))
 
-pub never-else : (es : Log) (e : Event) (k : ℕ) → Not (Starting ours es) → Tells failedReport k (reportsTo ours es e) → k ≡ wrongLow
-never-else es e k n t = low-only es e n (tells-caused es e failedReport k t .cause)
+pub never-else : (es : Log) (e : Event) (k : ℕ) → InBytes es → Not (Starting ours es) → Tells failedReport k (reportsTo ours es e) → k ≡ wrongLow
+never-else es e k b n t = low-only es e b n (tells-caused es e failedReport k t .cause)

@@ -23,5 +23,5 @@ none-held es b out off =
     shut false q = q
 
     apart : (c : Bool) → isStarting (after ours es .link .phase .state) ≡ c → isStarting (after ours es .link .phase .state) ≡ false
-    apart true q = absurd (off (starting-exactly es .0 q))
+    apart true q = absurd (off (starting-exactly es b .0 q))
     apart false q = q

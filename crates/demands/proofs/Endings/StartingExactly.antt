@@ -23,8 +23,8 @@ use Rattle.phases.specs.Phases.{isStarting, isConnected, down, starting}
 use Rattle.phases.specs.declared.State.{State}
 use Rattle.phases.specs.declared.State.the-variants.{Down}
 use Rattle.phases.specs.declared.Phase.{Phase}
-use Rattle.phases.proofs.StateTests.{is-down, never-starting}
-use Rattle.moves.specs.Moves.{sinceOrigin, isIdle, isGoodLow}
+use Rattle.phases.proofs.StateTests.{else-down, never-starting}
+use Rattle.moves.specs.Moves.{sinceOrigin, isGoodLow}
 use Rattle.reports.specs.declared.Run.{Run}
 use Rattle.link.specs.Handling.{freshLink, begun, handled, linkAfter}
 use Rattle.link.specs.declared.Link.{Link}
@@ -33,7 +33,7 @@ use Rattle.demands.specs.Logs.{Log, none, _▷_, numberAfter, takenOf, I
 use Rattle.demands.specs.Refusals.{Not}
 use Rattle.demands.specs.Histories.{after, reportsTo, Says, Tells}
 use Rattle.demands.specs.Endings.{Starter, NotIdle, WrongLow, Starting, starts, goes-on}
-use Rattle.demands.proofs.Moves.Entering.{In, carried, Open, judges, Leads, begins-slow, begins-fast, grows, waits}
+use Rattle.demands.proofs.Moves.Entering.{In, carried, Open, judges, Leads, begins-slow, begins-fast, grows, waits, hasIdled}
 use Rattle.demands.proofs.Moves.TimePasses.{Over, Idled, IsDown}
 use Rattle.demands.proofs.Moves.Causes.{Closer, no-closer, no-byte, false-of, Fails, runs-out, closes, falls-short, wrong, of-over, of-closed, leads}
 use Rattle.demands.proofs.Moves.Causes.{idles-made, over-made, closed-made, outside-made, wrong-made, last-made}
@@ -42,7 +42,7 @@ use Rattle.demands.proofs.Connecting.BecomesConnected.{completes-become
 use Rattle.demands.proofs.Connecting.ConnectsExactly.{link-taken, link-refused}
 use Rattle.demands.proofs.Histories.ReportsMade.{long-of, tells-caused, says-caused, made-at, says-made}
 use Rattle.demands.proofs.Sessions.SessionExactly.{session-exactly}
-use Rattle.demands.proofs.Endings.DownsExactly.{wrong-low, mark-not-idle, mark-idle}
+use Rattle.demands.proofs.Endings.DownsExactly.{wrong-low, link-not-idle, link-idle}
 use Rattle.demands.specs.Ours.{ours}
 
 no-wake-up : (e : Event) → e .kind ≡ Address → e .kind ≡ WakeUp → ⊥
@@ -61,7 +61,7 @@ unfolding starting isStarting
 starting-in fall s = refl
 
 -- ---- after events
-module _ (es : Log) (e : Event) where
+module _ (es : Log) (e : Event) (bytes : InBytes es) where
   abbrev here : Link
   here = after ours es .link
 
@@ -91,26 +91,26 @@ module _ (es : Log) (e : Event) where
             goes-on (f q) (no-success i) (λ s. lets-none here e c j (λ x. false≢true (sym o ∙ x .1)) (says-caused es e failedReport s .caused .cause))
 
         by-way : (q : Phase) → Leads here e q → Starting ours (es ▷ e)
-        by-way q (begins-slow k d) = starts n (inl k) (λ x. false≢true (sym (mark-not-idle es e .1 (x .1)) ∙ d)) (λ x. no-wake-up e k (x .0))
+        by-way q (begins-slow k d) = starts n (inl k) (λ x. false≢true (sym (link-not-idle es e bytes n (inl k) .1 (x .1)) ∙ d)) (λ x. no-wake-up e k (x .0))
         by-way q (begins-fast k d g) =
-            starts n (inr k) (λ x. false≢true (sym (mark-not-idle es e .1 (x .1)) ∙ d)) (λ x. false≢true (sym (wrong-low e .1 (x .2)) ∙ g))
+            starts n (inr k) (λ x. false≢true (sym (link-not-idle es e bytes n (inr k) .1 (x .1)) ∙ d)) (λ x. false≢true (sym (wrong-low e .1 (x .2)) ∙ g))
         by-way q (grows k w o j z) = on (no-closer e Byte refl k) (λ _. j) w o
         by-way q (waits (inl k) w o) = on (no-closer e Tick refl k) (λ b. absurd (no-byte e Tick refl k b)) w o
         by-way q (waits (inr k) w o) = on (no-closer e Other refl k) (λ b. absurd (no-byte e Other refl k b)) w o
 
-    started-taken : Starter e → Not (NotIdle (takenOf es) e) → Not (WrongLow (takenOf es) e) → In (handled here e .phase)
+    started-taken : Starter e → Not (NotIdle ours (takenOf es) e) → Not (WrongLow ours (takenOf es) e) → In (handled here e .phase)
     started-taken s i w = by-kind s
       where
-        idle-by : (b : Bool) → isIdle (here .mark) (e .start) ≡ b → isIdle (here .mark) (e .start) ≡ true
+        idle-by : (b : Bool) → hasIdled here e ≡ b → hasIdled here e ≡ true
         idle-by true q = q
-        idle-by false q = absurd (i (s, mark-not-idle es e .0 q))
+        idle-by false q = absurd (i (s, link-not-idle es e bytes n s .0 q))
 
-        idle : isIdle (here .mark) (e .start) ≡ true
-        idle = idle-by (isIdle (here .mark) (e .start)) refl
+        idle : hasIdled here e ≡ true
+        idle = idle-by (hasIdled here e) refl
 
         good : e .kind ≡ WakeUp → (b : Bool) → isGoodLow (e .start) (e .end) ≡ b → isGoodLow (e .start) (e .end) ≡ true
         good k true q = q
-        good k false q = absurd (w (k, mark-idle es e .0 idle, wrong-low e .0 q))
+        good k false q = absurd (w (k, link-idle es e bytes n s .0 idle, wrong-low e .0 q))
 
         by-kind : Starter e → In (handled here e .phase)
         by-kind (inl k) = carried _ _ (sym (ap (λ (x : Run). x .phase) (slow-run here e k idle))) (starting-in _ _)
@@ -174,17 +174,19 @@ fresh-out : In (after ours none .link .phase) → ⊥
 unfolding after freshLink down isStarting
 fresh-out i = false≢true i
 
-starting-of : (es : Log) → In (after ours es .link .phase) → Starting ours es
-starting-of none i = absurd (fresh-out i)
-starting-of (es ▷ e) i = starting-more es e (λ j. starting-of es j) i
+starting-of : (es : Log) → InBytes es → In (after ours es .link .phase) → Starting ours es
+unfolding InBytes
+starting-of none b i = absurd (fresh-out i)
+starting-of (es ▷ e) b i = starting-more es e (b .0) (λ j. starting-of es (b .0) j) i
 
-of-starting : {es : Log} → Starting ours es → In (after ours es .link .phase)
-of-starting (starts {es = es} {e = e} n s i w) = carried _ _ (sym (phase-taken es e n)) (started-taken es e n s i w)
-of-starting (goes-on {es = es} {e = e} s f g) = goes-more es e (of-starting s) f g
+of-starting : {es : Log} → InBytes es → Starting ours es → In (after ours es .link .phase)
+unfolding InBytes
+of-starting b (starts {es = es} {e = e} n s i w) = carried _ _ (sym (phase-taken es e (b .0) n)) (started-taken es e (b .0) n s i w)
+of-starting b (goes-on {es = es} {e = e} s f g) = goes-more es e (b .0) (of-starting (b .0) s) f g
 
 -- IN AN INITIALIZATION
-pub starting-exactly : (es : Log) → (isStarting (after ours es .link .phase .state) ≡ true) ↔ Starting ours es
-starting-exactly es = (λ i. starting-of es i, λ s. of-starting s)
+pub starting-exactly : (es : Log) → InBytes es → (isStarting (after ours es .link .phase .state) ≡ true) ↔ Starting ours es
+starting-exactly es b = (λ i. starting-of es b i, λ s. of-starting b s)
 
 -- ---- neither in a session nor in an initialization
 down-off : (st : State) → st ≡ Down → (isConnected st ≡ false) × (isStarting st ≡ false)
@@ -196,8 +198,8 @@ down-exactly es b =
     let st = after ours es .link .phase .state in (
       λ d.
           let x = down-off st d in
-          (λ s. false≢true (sym (x .0) ∙ session-exactly es b .1 s), λ s. false≢true (sym (x .1) ∙ starting-exactly es .1 s)),
-      λ x. is-down st (false-of (isConnected st) (λ c. x .0 (session-exactly es b .0 c))) (false-of (isStarting st) (λ c. x .1 (starting-exactly es .0 c))),
+          (λ s. false≢true (sym (x .0) ∙ session-exactly es b .1 s), λ s. false≢true (sym (x .1) ∙ starting-exactly es b .1 s)),
+      λ x. else-down st (false-of (isConnected st) (λ c. x .0 (session-exactly es b .0 c))) (false-of (isStarting st) (λ c. x .1 (starting-exactly es b .0 c))),
     )
 
 -- ---- the present window's end passed, and P3 max passed, as the event's reports say it
@@ -244,15 +246,15 @@ outside-exactly es e b = (
 )
 
 -- CLOSED
-pub closed-start-exactly : (es : Log) (e : Event)
+pub closed-start-exactly : (es : Log) (e : Event) → InBytes es
     → Tells failedReport closed (reportsTo ours es e)
     ↔ ((numberAfter (takenOf es) e ≡ taken) × Starting ours es × (Starter e ⊎ (e .kind ≡ Drop)) × Not (Tells failedReport windowOver (reportsTo ours es e)))
-closed-start-exactly es e = (
+closed-start-exactly es e b = (
   λ t.
       let x = tells-caused es e failedReport closed t in
       let c = of-closed (l es e) e (x .cause) refl in
-      (x .number-is, starting-exactly es .0 (c .0), c .2, λ o. c .1 (over-told es e o)),
+      (x .number-is, starting-exactly es b .0 (c .0), c .2, λ o. c .1 (over-told es e o)),
   λ x.
       made-at es e failedReport closed (x .0)
-      (closed-made (l es e) e (starting-exactly es .1 (x .1)) (λ o. x .3 (made-at es e failedReport windowOver (x .0) (over-made (l es e) e o))) (x .2)),
+      (closed-made (l es e) e (starting-exactly es b .1 (x .1)) (λ o. x .3 (made-at es e failedReport windowOver (x .0) (over-made (l es e) e o))) (x .2)),
 )

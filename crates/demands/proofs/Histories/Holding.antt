@@ -20,7 +20,7 @@ use Rattle.phases.specs.declared.Phase.{Phase}
 use Rattle.moves.specs.Moves.{still, makes}
 use Rattle.moves.specs.declared.Move.{Move}
 use Rattle.moves.proofs.Rules.{Moment, at-silence, at-p2, at-p3, at-window, at-closing, at-leaving, at-start, at-byte, at-stop, at-end, next, Unmoved, Rule}
-use Rattle.moves.proofs.Rules.{rests, breaks-off, waited, idled, expires, cuts-off, aborts, leaves, starts-slow, starts-fast, hurries, low}
+use Rattle.moves.proofs.Rules.{rests, breaks-off, waited, idled, expires, cuts-off, aborts, leaves, starts-slow, starts-fast, hurries, low, drops}
 use Rattle.moves.proofs.Rules.{strays, misses, connects, goes-on, opens, errs, breaks, frames, grows, stops}
 use Rattle.reports.specs.Reporting.{namesBytes}
 
@@ -129,6 +129,7 @@ module _ (n0 h0 : ℕ) where
     rule-goes k m (cuts-off o) g = reports refl (damage (holds-some (p .state) n h o (g .0))) (refl, g .1, refl)
     rule-goes k m (aborts s) g = reports refl (failure (In Starting h s (g .0))) (refl, g .1, refl)
     rule-goes k m (leaves c q) g = reports refl (left (g .2)) (g .2, g .1, g .2)
+    rule-goes k m (drops d x) g = stays (g .2, g .1, g .2)
     rule-goes k m (starts-slow a i) g = let x : n ≤ h = omega (arith, g .2) in stays x
     rule-goes k m (starts-fast w i l) g = let x : n ≤ h = omega (arith, g .2) in stays x
     rule-goes k m (hurries s i) g = reports refl (not-idle (g .2)) (g .2)

@@ -13,7 +13,7 @@ use lib.Dec.{eqb}
 use Rattle.base.specs.Reports.{frameReport, damageReport, connectedReport, failedReport, outsideReport, noReplyReport, downReport, notIdleReport}
 use Rattle.base.specs.Reports.{noReason, brokenOff, closed, windowOver, wrongLow, wrongSide, tooEarly, misfit, stopped, idleOver, dropped, restarted}
 use Rattle.base.proofs.Tests.{by-test}
-use Rattle.units.specs.Units.{gapOf}
+use Rattle.units.specs.Units.{micros, gapOf}
 use Rattle.units.specs.declared.Micros.{Micros}
 use Rattle.events.specs.Events.{isTester, isByte}
 use Rattle.events.specs.declared.Kind.{Kind}
@@ -28,7 +28,7 @@ use Rattle.phases.proofs.StateTests.{is-starting, is-quiet, open-connected, qui
 use Rattle.moves.specs.Moves.{makes, lossReason, isSilent, sinceOrigin, isIdle, isGoodLow}
 use Rattle.moves.specs.declared.Move.{Move}
 use Rattle.moves.proofs.Rules.{Moment, at-silence, at-p2, at-p3, at-window, at-closing, at-leaving, at-start, at-byte, at-stop, at-end, next}
-use Rattle.moves.proofs.Rules.{Closes, by-drop, by-address, by-wake-up, Rule, rests, breaks-off, cuts-off, aborts, leaves, starts-slow, starts-fast, hurries, low}
+use Rattle.moves.proofs.Rules.{Closes, by-drop, by-address, by-wake-up, Rule, rests, breaks-off, cuts-off, aborts, leaves, drops, starts-slow, starts-fast, hurries, low}
 use Rattle.moves.proofs.Rules.{strays, misses, connects, goes-on, opens, errs, breaks, frames, grows, stops, one-move}
 use Rattle.reports.specs.declared.Report.{Report}
 use Rattle.reports.specs.Reporting.{moved}
@@ -36,12 +36,12 @@ use Rattle.reports.specs.declared.Run.{Run}
 use Rattle.link.specs.Handling.{passed, begun, handled}
 use Rattle.link.specs.declared.Link.{Link}
 use Rattle.link.specs.Telling.{tells, handledTells}
-use Rattle.link.proofs.Walk.{moved-phase, Reached, time-walk-by, event-walk-by}
+use Rattle.link.proofs.Walk.{moved-phase, Reached, Here, time-walk-by, event-walk-by}
 use Rattle.link.proofs.Long.{Long}
 use Rattle.demands.specs.Histories.{Tells}
 use Rattle.demands.specs.Endings.{Starter}
 use Rattle.demands.proofs.Moves.ReportsInList.{each-none, each-both, tells-left, tells-right, move-tells, EachOf, Makes, silent, move-each}
-use Rattle.demands.proofs.Moves.Entering.{In, Open, judges, Completes, Leads, begins-slow, begins-fast, waits}
+use Rattle.demands.proofs.Moves.Entering.{In, Open, judges, Completes, judging, hasIdled, Leads, begins-slow, begins-fast, waits}
 use Rattle.demands.proofs.Moves.Entering.{grows as goes-further}
 use Rattle.demands.proofs.Moves.TimePasses.{Waited, Idled, Over, Lasts, First, found, Second, Third, Fourth, Left, IsDown, due-second, due-third, due-fourth}
 use Rattle.demands.proofs.Moves.TimePasses.{first-rule, second-rule, third-rule, fourth-rule, in-left, still-in, up-left, still-up, down-left, is-down, still-open}
@@ -68,7 +68,7 @@ pub no-byte : (e : Event) (k : Kind) → isByte k ≡ false → e .kind ≡ k �
 unfolding isByte
 no-byte e k x p q = false≢true (sym x ∙ (sym (ap isByte p) ∙ ap isByte q))
 
-drop-starts : (e : Event) → e .kind ≡ Drop → Starter e → ⊥
+pub drop-starts : (e : Event) → e .kind ≡ Drop → Starter e → ⊥
 drop-starts e d (inl a) = let z : _≡_ {A = ℕ} 0 1 = cc in omega arith
 drop-starts e d (inr a) = let z : _≡_ {A = ℕ} 0 1 = cc in omega arith
 
@@ -104,7 +104,7 @@ module _ (l : Link) (e : Event) where
   pub data Fails : ℕ → Type 0 where
     runs-out : RanOut → Fails windowOver
     closes : In p → (RanOut → ⊥) → Closer e → Fails closed
-    falls-short : e .kind ≡ WakeUp → isIdle (l .mark) (e .start) ≡ true → isGoodLow (e .start) (e .end) ≡ false → Fails wrongLow
+    falls-short : e .kind ≡ WakeUp → hasIdled l e ≡ true → isGoodLow (e .start) (e .end) ≡ false → Fails wrongLow
     wrong : In p → (RanOut → ⊥) → e .kind ≡ Byte → wrongLow < judges l e p → Fails (judges l e p)
 
   pub of-over : {k : ℕ} → Fails k → k ≡ windowOver → RanOut
@@ -119,7 +119,7 @@ module _ (l : Link) (e : Event) where
   of-closed (falls-short w i g) z = absurd (omega arith)
   of-closed (wrong i o b h) z = absurd (omega arith)
 
-  pub of-low : {k : ℕ} → Fails k → k ≡ wrongLow → (e .kind ≡ WakeUp) × (isIdle (l .mark) (e .start) ≡ true) × (isGoodLow (e .start) (e .end) ≡ false)
+  pub of-low : {k : ℕ} → Fails k → k ≡ wrongLow → (e .kind ≡ WakeUp) × (hasIdled l e ≡ true) × (isGoodLow (e .start) (e .end) ≡ false)
   of-low (runs-out o) z = absurd (omega arith)
   of-low (closes i o c) z = absurd (omega arith)
   of-low (falls-short w i g) z = (w, i, g)
@@ -143,7 +143,7 @@ module _ (l : Link) (e : Event) where
       (when (eqb n outsideReport) (IsDown (l .mark) e p × (e .kind ≡ Byte))
       (when (eqb n noReplyReport) (Waited p gap)
       (when (eqb n downReport) (Up p × DownFor k)
-      (when (eqb n notIdleReport) (Starter e × (isIdle (l .mark) (e .start) ≡ false)) ⊥)))))))
+      (when (eqb n notIdleReport) (Starter e × (hasIdled l e ≡ false)) ⊥)))))))
 
   -- ---- WHAT HOLDS AT EACH MOMENT of the phase q that the link has come to
   -- what was open is closed: what is connected was so before
@@ -206,18 +206,26 @@ module _ (l : Link) (e : Event) where
 
   leaving-rule : (q : Phase) (m : Move) → Shut q → At at-leaving q m → IsOff (m .phase) × Makes Cause m
   unfolding down isStarting isConnected
-  leaving-rule q m j (rests u) = ((j .out, λ a. false≢true (sym u ∙ open-or-quiet (q .state) a (j .shut))), silent Cause q)
+  leaving-rule q m j (rests u) = ((j .out, λ a. false≢true (sym (u .0) ∙ open-or-quiet (q .state) a (j .shut))), silent Cause q)
   leaving-rule q m j (leaves c k) =
       let x = j .up (quiet-connected (q .state) (quiet-is k)) in
       ((λ i. false≢true i, λ a. false≢true a), λ _. (x .0, downs-by c (x .1)))
+  leaving-rule q m j (drops d k) = ((λ i. false≢true i, λ a. false≢true a), silent Cause (m .phase))
 
-  start-rule : (q : Phase) (m : Move) → At at-start q m → After (m .phase) × Makes Cause m
+  -- what is asked of the idle time of a start, by the phase that it finds
+  found-idle : {q : Phase} {b : Bool} → q ≡ judging l e → isIdle (q .idle) (l .mark) (e .start) ≡ b → hasIdled l e ≡ b
+  found-idle h i = sym (ap (λ (x : Phase). isIdle (x .idle) (l .mark) (e .start)) h) ∙ i
+
+  idle-found : {q : Phase} {b : Bool} → q ≡ judging l e → hasIdled l e ≡ b → isIdle (q .idle) (l .mark) (e .start) ≡ b
+  idle-found h i = ap (λ (x : Phase). isIdle (x .idle) (l .mark) (e .start)) h ∙ i
+
+  start-rule : (q : Phase) (m : Move) → q ≡ judging l e → At at-start q m → After (m .phase) × Makes Cause m
   unfolding down starting isStarting isConnected
-  start-rule q m (rests u) = absurd u
-  start-rule q m (starts-slow k i) = ((λ _. begins-slow k i, λ a. absurd (false≢true a)), silent Cause (m .phase))
-  start-rule q m (starts-fast k i g) = ((λ _. begins-fast k i g, λ a. absurd (false≢true a)), silent Cause (m .phase))
-  start-rule q m (hurries s i) = ((λ a. absurd (false≢true a), λ a. absurd (false≢true a)), λ _. (s, i))
-  start-rule q m (low k i g) = ((λ a. absurd (false≢true a), λ a. absurd (false≢true a)), λ _. falls-short k i g)
+  start-rule q m h (rests u) = absurd u
+  start-rule q m h (starts-slow k i) = ((λ _. begins-slow k (found-idle h i), λ a. absurd (false≢true a)), silent Cause (m .phase))
+  start-rule q m h (starts-fast k i g) = ((λ _. begins-fast k (found-idle h i) g, λ a. absurd (false≢true a)), silent Cause (m .phase))
+  start-rule q m h (hurries s i) = ((λ a. absurd (false≢true a), λ a. absurd (false≢true a)), λ _. (s, found-idle h i))
+  start-rule q m h (low k i g) = ((λ a. absurd (false≢true a), λ a. absurd (false≢true a)), λ _. falls-short k (found-idle h i) g)
 
   -- a byte that fails its initialization does so for a reason of its own
   judged-above : (q : Phase) → eqb (judges l e q) noReason ≡ false → wrongLow < judges l e q
@@ -232,9 +240,9 @@ module _ (l : Link) (e : Event) where
   open-window : (RanOut → ⊥) → In p → Open p (l .mark) (e .start)
   open-window n i = false-of (isOver (p .start) (sinceOrigin p (l .mark) (e .start))) (λ o. n (i, o))
 
-  heard-off : Heard down
+  heard-off : (idle : Micros) → Heard (down idle)
   unfolding down isStarting isConnected isQuiet
-  heard-off = record { after = (λ i. absurd (false≢true i), λ a. absurd (false≢true a)); stops-up = λ q _. absurd (false≢true (ap isQuiet q)) }
+  heard-off idle = record { after = (λ i. absurd (false≢true i), λ a. absurd (false≢true a)); stops-up = λ q _. absurd (false≢true (ap isQuiet q)) }
 
   heard-up : (q : Phase) → isStarting (q .state) ≡ false → Up p → Heard q
   heard-up q s u = record { after = (λ i. absurd (false≢true (sym s ∙ i)), λ _. inl u); stops-up = λ _ _. u }
@@ -242,10 +250,10 @@ module _ (l : Link) (e : Event) where
   byte-rule : (q : Phase) (m : Move) → e .kind ≡ Byte → Left (l .mark) e p q → At at-byte q m → Heard (m .phase) × Makes Cause m
   unfolding starting connected talking holding damaged isStarting isConnected isQuiet isStopped
   byte-rule q m k j (rests d) = (heard-up q (ap isStarting d) (up-left _ e p j (ap isConnected d) .0), silent Cause q)
-  byte-rule q m k j (strays d) = (heard-off, λ _. (down-left _ e p j d, k))
+  byte-rule q m k j (strays d) = (heard-off (q .idle), λ _. (down-left _ e p j d, k))
   byte-rule q m k j (misses s v) =
       let x = in-left _ e p j (starting-is s) in (
-        heard-off,
+        heard-off _,
         λ _. subst (λ (y : Phase). eqb (judges l e y) noReason ≡ false → Fails (judges l e y)) (sym (x .0))
             (λ z. wrong (x .1) (x .2) k (judged-above p z)) v,
       )
@@ -283,18 +291,21 @@ module _ (l : Link) (e : Event) where
   stop-rule q m j (rests u) = (j .after, silent Cause q)
   stop-rule q m j (stops h r) = ((λ i. absurd (false≢true i), λ a. absurd (false≢true a)), λ _. (j .stops-up h r, tt))
 
-  rule : (k : Moment) → Reached e k → (q : Phase) (m : Move) → At k q m → J k q → J (next k) (m .phase) × Makes Cause m
+  abbrev Found : Moment → Phase → Type 0
+  Found k q = Here (passed (begun l e) (l .mark) (e .start)) k q
+
+  rule : (k : Moment) → Reached e k → (q : Phase) → Found k q → (m : Move) → At k q m → J k q → J (next k) (m .phase) × Makes Cause m
   unfolding next
-  rule at-silence w q m u j = first-rule _ e p Cause (λ o k. open-connected (p .state) o) q m j u
-  rule at-p2 w q m u j = second-rule _ e p Cause (λ x. x) q m j u
-  rule at-p3 w q m u j = third-rule _ e p Cause (λ i. (i .0, i)) q m j u
-  rule at-window w q m u j = fourth-rule _ e p Cause runs-out q m j u
-  rule at-closing w q m u j = closing-rule q m w j u
-  rule at-leaving w q m u j = leaving-rule q m j u
-  rule at-start w q m u j = start-rule q m u
-  rule at-byte w q m u j = byte-rule q m w j u
-  rule at-stop w q m u j = stop-rule q m j u
-  rule at-end w q m (rests u) j = absurd u
+  rule at-silence w q h m u j = first-rule _ e p Cause (λ o k. open-connected (p .state) o) q m j u
+  rule at-p2 w q h m u j = second-rule _ e p Cause (λ x. x) q m j u
+  rule at-p3 w q h m u j = third-rule _ e p Cause (λ i. (i .0, i)) q m j u
+  rule at-window w q h m u j = fourth-rule _ e p Cause runs-out q m j u
+  rule at-closing w q h m u j = closing-rule q m w j u
+  rule at-leaving w q h m u j = leaving-rule q m j u
+  rule at-start w q h m u j = start-rule q m h u
+  rule at-byte w q h m u j = byte-rule q m w j u
+  rule at-stop w q h m u j = stop-rule q m j u
+  rule at-end w q h m (rests u) j = absurd u
 
   -- a drop ends when all is closed, a tick when time has passed
   leaves-on : (q : Phase) → IsOff q → After q
@@ -315,16 +326,17 @@ module _ (l : Link) (e : Event) where
   keeps : (k : Moment) (r : Run) (m : Move) → J (next k) (m .phase) → J (next k) (moved r m .phase)
   keeps k r m j = subst (J (next k)) (sym (moved-phase r m)) j
 
-  moves : (k : Moment) → Reached e k → (r : Run) (xs : List Report) (m : Move) → At k (r .phase) m → I k r xs → I (next k) (moved r m) (xs ++ tells r m)
-  moves k w r xs m u i =
-      let x = rule k w (r .phase) m u (i .0) in
+  moves : (k : Moment) → Reached e k → (r : Run) → Found k (r .phase) → (xs : List Report) (m : Move) → At k (r .phase) m → I k r xs
+      → I (next k) (moved r m) (xs ++ tells r m)
+  moves k w r h xs m u i =
+      let x = rule k w (r .phase) h m u (i .0) in
       (keeps k r m (x .0), each-both (λ (y : Report). Cause (y .number) (y .reason)) xs (tells r m) (i .1) (move-each Cause r m (x .1)))
 
   whole : I at-end (handled l e) (handledTells l e)
   unfolding handled handledTells begun
   whole =
-      event-walk-by (l .mark) e I moves (λ _ r xs i. i) (λ _ r xs i. (leaves-on (r .phase) (i .0), i .1)) (λ k r xs i. (ends-on k (r .phase) (i .0), i .1))
-      (begun l e) (found, each-none (λ (y : Report). Cause (y .number) (y .reason)))
+      event-walk-by (l .mark) e (begun l e) I moves (λ _ r xs i. i) (λ _ r xs i. (leaves-on (r .phase) (i .0), i .1))
+      (λ k r xs i. (ends-on k (r .phase) (i .0), i .1)) (found, each-none (λ (y : Report). Cause (y .number) (y .reason)))
 
   -- EACH OF ITS REPORTS HAS A CAUSE
   pub cause-each : EachOf Cause (handledTells l e)
@@ -340,12 +352,12 @@ module _ (l : Link) (e : Event) where
   -- what time leaves
   pub left : Left (l .mark) e (l .phase) (passed (begun l e) (l .mark) (e .start) .phase)
   unfolding begun
-  left = time-walk-by (l .mark) e I moves (begun l e) (found, each-none (λ (y : Report). Cause (y .number) (y .reason))) .0
+  left = time-walk-by (l .mark) e (begun l e) I moves (found, each-none (λ (y : Report). Cause (y .number) (y .reason))) .0
 
   -- ---- THE CAUSES MAKE THEIR REPORTS
   -- a report that is to come: now, by a rule, or at a later moment
   data Due (n s : ℕ) : Moment → Type 0 where
-    now : {k : Moment} → Reached e k → (to : Phase → Phase) → ((q : Phase) → J k q → At k q (makes n s (to q))) → Due n s k
+    now : {k : Moment} → Reached e k → (to : Phase → Phase) → ((q : Phase) → Found k q → J k q → At k q (makes n s (to q))) → Due n s k
     later : {k : Moment} → Reached e k → Due n s (next k) → Due n s k
     heard : e .kind ≡ Byte → Due n s at-byte → Due n s at-closing
 
@@ -353,13 +365,13 @@ module _ (l : Link) (e : Event) where
     abbrev Made : Moment → Run → List Report → Type 0
     Made k r xs = J k (r .phase) × (Due n s k ⊎ Tells n s xs)
 
-    on : (k : Moment) → Reached e k → (r : Run) (xs : List Report) (m : Move) → At k (r .phase) m → J k (r .phase) → Due n s k ⊎ Tells n s xs
+    on : (k : Moment) → Reached e k → (r : Run) → Found k (r .phase) → (xs : List Report) (m : Move) → At k (r .phase) m → J k (r .phase) → Due n s k ⊎ Tells n s xs
         → Due n s (next k) ⊎ Tells n s (xs ++ tells r m)
-    on k w r xs m u j (inl (now v to f)) =
-        inr (tells-right n s xs (tells r m) (move-tells r m n s (to (r .phase)) some (one-move _ e (r .phase) u (f (r .phase) j))))
-    on k w r xs m u j (inl (later v d)) = inl d
-    on k w r xs m u j (inl (heard b d)) = absurd (no-closer e Byte refl b w)
-    on k w r xs m u j (inr t) = inr (tells-left n s xs (tells r m) t)
+    on k w r h xs m u j (inl (now v to f)) =
+        inr (tells-right n s xs (tells r m) (move-tells r m n s (to (r .phase)) some (one-move _ e (r .phase) u (f (r .phase) h j))))
+    on k w r h xs m u j (inl (later v d)) = inl d
+    on k w r h xs m u j (inl (heard b d)) = absurd (no-closer e Byte refl b w)
+    on k w r h xs m u j (inr t) = inr (tells-left n s xs (tells r m) t)
 
     on-byte : e .kind ≡ Byte → (xs : List Report) → Due n s at-closing ⊎ Tells n s xs → Due n s at-byte ⊎ Tells n s xs
     on-byte b xs (inl (now v to f)) = absurd (no-closer e Byte refl b v)
@@ -388,7 +400,7 @@ module _ (l : Link) (e : Event) where
 
     never : (q : Phase) → After q → Due n s at-end → ⊥
     unfolding next
-    never q j (now v to f) = no-rule q (makes n s (to q)) (f q j)
+    never q j (now v to f) = no-rule q (makes n s (to q)) (f q tt j)
     never q j (later v d) = never q j d
 
     in-the-end : (r : Run) (xs : List Report) → Made at-end r xs → Tells n s xs
@@ -399,9 +411,9 @@ module _ (l : Link) (e : Event) where
     unfolding handled handledTells begun
     made d =
         in-the-end (handled l e) (handledTells l e)
-        (event-walk-by (l .mark) e Made (λ k w r xs m u i. (keeps k r m (rule k w (r .phase) m u (i .0) .0), on k w r xs m u (i .0) (i .1)))
+        (event-walk-by (l .mark) e (begun l e) Made (λ k w r h xs m u i. (keeps k r m (rule k w (r .phase) h m u (i .0) .0), on k w r h xs m u (i .0) (i .1)))
         (λ b r xs i. (i .0, on-byte b xs (i .1))) (λ k r xs i. (leaves-on (r .phase) (i .0), inr (on-drop k xs (i .1))))
-        (λ k r xs i. (ends-on k (r .phase) (i .0), inr (ticks k xs (i .1)))) (begun l e) (found, inl d))
+        (λ k r xs i. (ends-on k (r .phase) (i .0), inr (ticks k xs (i .1)))) (found, inl d))
 
   acting : {n s : ℕ} → Due n s at-closing → Due n s at-silence
   unfolding next
@@ -410,38 +422,38 @@ module _ (l : Link) (e : Event) where
   pub broken-made : isOpen (p .state) ≡ true → isSilent gap ≡ true → Tells damageReport (lossReason p brokenOff) (handledTells l e)
   broken-made o s = made damageReport (lossReason p brokenOff) refl (now tt settled first)
     where
-      first : (q : Phase) → First (l .mark) e p q → At at-silence q (makes damageReport (lossReason p brokenOff) (settled q))
-      first q found = breaks-off o s
+      first : (q : Phase) → Found at-silence q → First (l .mark) e p q → At at-silence q (makes damageReport (lossReason p brokenOff) (settled q))
+      first q _ found = breaks-off o s
 
   pub cut-made : Long p → isOpen (p .state) ≡ true → isSilent gap ≡ false → Closer e → Tells damageReport (lossReason p closed) (handledTells l e)
   cut-made g o s c =
       made damageReport (lossReason p closed) refl
-      (acting (now c settled (λ q j. subst (λ (y : Phase). At at-closing y (makes damageReport (lossReason p closed) (settled y))) (sym (still-open _ e p j g o s))
+      (acting (now c settled (λ q _ j. subst (λ (y : Phase). At at-closing y (makes damageReport (lossReason p closed) (settled y))) (sym (still-open _ e p j g o s))
       (cuts-off o))))
 
   pub waits-made : Waited p gap → Tells noReplyReport noReason (handledTells l e)
   unfolding next
-  waits-made w = made noReplyReport noReason refl (later tt (now tt settled (λ q j. due-second _ e p j w)))
+  waits-made w = made noReplyReport noReason refl (later tt (now tt settled (λ q _ j. due-second _ e p j w)))
 
   pub idles-made : Long p → Idled p gap → Tells downReport idleOver (handledTells l e)
   unfolding next
-  idles-made g i = made downReport idleOver refl (later tt (later tt (now tt (λ _. down) (λ q j. due-third _ e p j g i))))
+  idles-made g i = made downReport idleOver refl (later tt (later tt (now tt (λ _. down (micros 0)) (λ q _ j. due-third _ e p j g i))))
 
   pub over-made : RanOut → Tells failedReport windowOver (handledTells l e)
   unfolding next
-  over-made o = made failedReport windowOver refl (later tt (later tt (later tt (now tt (λ _. off) (λ q j. due-fourth _ e p j o)))))
+  over-made o = made failedReport windowOver refl (later tt (later tt (later tt (now tt (λ _. off) (λ q _ j. due-fourth _ e p j o)))))
 
   is-in : (q : Phase) → q ≡ p → In p → In q
   is-in q x i = ap (λ (y : Phase). isStarting (y .state)) x ∙ i
 
   pub closed-made : In p → (RanOut → ⊥) → Closer e → Tells failedReport closed (handledTells l e)
   closed-made i n c =
-      made failedReport closed refl (acting (now c (λ _. off) (λ q j. aborts (is-starting (q .state) (is-in q (still-in _ e p j i n) i)))))
+      made failedReport closed refl (acting (now c (λ _. off) (λ q _ j. aborts (is-starting (q .state) (is-in q (still-in _ e p j i n) i)))))
 
   leaves-made : {reason : ℕ} → Closes e reason → Closer e → Up p → (Idled p gap → ⊥) → Tells downReport reason (handledTells l e)
   unfolding next
   leaves-made {reason = reason} c w u n =
-      made downReport reason refl (acting (later w (now w (λ _. off) (λ q j. leaves c (is-quiet (q .state) (j .quiet u n))))))
+      made downReport reason refl (acting (later w (now w (λ _. off) (λ q _ j. leaves c (is-quiet (q .state) (j .quiet u n))))))
 
   pub dropped-made : Up p → (Idled p gap → ⊥) → e .kind ≡ Drop → Tells downReport dropped (handledTells l e)
   dropped-made u n k = leaves-made (by-drop k) (inr k) u n
@@ -450,27 +462,27 @@ module _ (l : Link) (e : Event) where
   restarted-made u n (inl k) = leaves-made (by-address k) (inl (inl k)) u n
   restarted-made u n (inr k) = leaves-made (by-wake-up k) (inl (inr k)) u n
 
-  pub not-idle-made : Starter e → isIdle (l .mark) (e .start) ≡ false → Tells notIdleReport noReason (handledTells l e)
+  pub not-idle-made : Starter e → hasIdled l e ≡ false → Tells notIdleReport noReason (handledTells l e)
   unfolding next
-  not-idle-made s i = made notIdleReport noReason refl (acting (later (inl s) (later (inl s) (now s (λ _. down) (λ q j. hurries s i)))))
+  not-idle-made s i = made notIdleReport noReason refl (acting (later (inl s) (later (inl s) (now s (λ (q : Phase). down (q .idle)) (λ q h j. hurries s (idle-found h i))))))
 
-  pub low-made : e .kind ≡ WakeUp → isIdle (l .mark) (e .start) ≡ true → isGoodLow (e .start) (e .end) ≡ false → Tells failedReport wrongLow (handledTells l e)
+  pub low-made : e .kind ≡ WakeUp → hasIdled l e ≡ true → isGoodLow (e .start) (e .end) ≡ false → Tells failedReport wrongLow (handledTells l e)
   unfolding next
   low-made k i g =
-      made failedReport wrongLow refl (acting (later (inl (inr k)) (later (inl (inr k)) (now (inr k) (λ _. off) (λ q j. low k i g)))))
+      made failedReport wrongLow refl (acting (later (inl (inr k)) (later (inl (inr k)) (now (inr k) (λ _. off) (λ q h j. low k (idle-found h i) g)))))
 
   pub outside-made : Long p → IsDown (l .mark) e p → e .kind ≡ Byte → Tells outsideReport noReason (handledTells l e)
-  outside-made g d k = made outsideReport noReason refl (acting (heard k (now k (λ _. down) (λ q j. strays (is-down _ e p j g d)))))
+  outside-made g d k = made outsideReport noReason refl (acting (heard k (now k (λ (q : Phase). down (q .idle)) (λ q _ j. strays (is-down _ e p j g d)))))
 
   pub wrong-made : e .kind ≡ Byte → In p → (RanOut → ⊥) → eqb (judges l e p) noReason ≡ false → Tells failedReport (judges l e p) (handledTells l e)
   wrong-made k i n v =
       made failedReport (judges l e p) refl
-      (acting (heard k (now k (λ _. off) (λ q j. subst (λ (y : Phase). At at-byte y (makes failedReport (judges l e p) off)) (sym (still-in _ e p j i n))
+      (acting (heard k (now k (λ _. off) (λ q _ j. subst (λ (y : Phase). At at-byte y (makes failedReport (judges l e p) off)) (sym (still-in _ e p j i n))
       (misses (is-starting (p .state) i) v)))))
 
   pub last-made : e .kind ≡ Byte → In p → (RanOut → ⊥) → judges l e p ≡ noReason → isLast (p .start .stage) ≡ true
       → Tells connectedReport noReason (handledTells l e)
   last-made k i n v z =
       made connectedReport noReason refl
-      (acting (heard k (now k (λ (q : Phase). connected (q .start)) (λ q j. subst (λ (y : Phase). At at-byte y (makes connectedReport noReason (connected (y .start))))
+      (acting (heard k (now k (λ (q : Phase). connected (q .start)) (λ q _ j. subst (λ (y : Phase). At at-byte y (makes connectedReport noReason (connected (y .start))))
       (sym (still-in _ e p j i n)) (connects (is-starting (p .state) i) (eq-eqb (judges l e p) noReason v) z)))))

@@ -19,7 +19,7 @@ use Rattle.talk.specs.Talk.{isStopped}
 use Rattle.phases.specs.Phases.{isQuiet, starting, connected}
 use Rattle.phases.specs.declared.Phase.{Phase}
 use Rattle.phases.proofs.StateTests.{is-starting}
-use Rattle.moves.specs.Moves.{still, makes, isIdle, startingSlow, isGoodLow, startingFast, afterByte, afterStop}
+use Rattle.moves.specs.Moves.{still, makes, startingSlow, isGoodLow, startingFast, afterByte, afterStop}
 use Rattle.moves.specs.declared.Move.{Move}
 use Rattle.moves.proofs.Rules.{at-byte, Rule, rests, starts-slow, starts-fast, connects, goes-on, by-slow, by-fast, by-byte, by-stop, one-move}
 use Rattle.reports.specs.Reporting.{reportOf, appended, listed, told, withPhase, moved}
@@ -31,16 +31,16 @@ use Rattle.link.proofs.Walk.{moved-phase}
 use Rattle.link.proofs.Three.{three-enough}
 use Rattle.demands.specs.Histories.{isAmong, Says}
 use Rattle.demands.proofs.Moves.ReportsInList.{says-speaks}
-use Rattle.demands.proofs.Moves.Entering.{In, Open, passed-open, judges, Completes}
+use Rattle.demands.proofs.Moves.Entering.{In, Open, passed-open, judges, Completes, hasIdled}
 use Rattle.demands.proofs.Moves.Causes.{Cause, cause-each}
 
 -- ---- what an event does, by its kind
 module _ (r : Run) (e : Event) (mark : Micros) where
-  acted-slow : e .kind ≡ Address → acted r e mark ≡ moved (shut r restarted) (startingSlow (e .value) mark (e .start))
+  acted-slow : e .kind ≡ Address → acted r e mark ≡ moved (shut r restarted) (startingSlow (shut r restarted .phase .idle) (e .value) mark (e .start))
   unfolding acted
   acted-slow k = ap (λ (x : Kind). actedBy x r e mark) k
 
-  acted-fast : e .kind ≡ WakeUp → acted r e mark ≡ moved (shut r restarted) (startingFast mark (e .start) (e .end))
+  acted-fast : e .kind ≡ WakeUp → acted r e mark ≡ moved (shut r restarted) (startingFast (shut r restarted .phase .idle) mark (e .start) (e .end))
   unfolding acted
   acted-fast k = ap (λ (x : Kind). actedBy x r e mark) k
 
@@ -96,11 +96,11 @@ module _ (l : Link) (e : Event) where
   r = passed (begun l e) (l .mark) (e .start)
 
   -- it starts an initialization
-  pub slow-run : e .kind ≡ Address → isIdle (l .mark) (e .start) ≡ true → handled l e ≡ withPhase (shut r restarted) (starting (micros 0) (slowStart (e .value)))
+  pub slow-run : e .kind ≡ Address → hasIdled l e ≡ true → handled l e ≡ withPhase (shut r restarted) (starting (micros 0) (slowStart (e .value)))
   unfolding handled moved
   slow-run k i = acted-slow r e (l .mark) k ∙ ap (moved (shut r restarted)) (one-move _ e _ (by-slow _ e (shut r restarted .phase) k) (starts-slow k i))
 
-  pub fast-run : e .kind ≡ WakeUp → isIdle (l .mark) (e .start) ≡ true → isGoodLow (e .start) (e .end) ≡ true
+  pub fast-run : e .kind ≡ WakeUp → hasIdled l e ≡ true → isGoodLow (e .start) (e .end) ≡ true
       → handled l e ≡ withPhase (shut r restarted) (starting (e .start) fastStart)
   unfolding handled moved
   fast-run k i g = acted-fast r e (l .mark) k ∙ ap (moved (shut r restarted)) (one-move _ e _ (by-fast _ e (shut r restarted .phase) k) (starts-fast k i g))

@@ -1,11 +1,11 @@
--- An initialization under way, on any link: what it is to complete one (`Completes`), and how an event leads to one (`Leads`). While its window is open,
--- time leaves it as it is.
+-- An initialization under way, on any link: what it is to complete one (`Completes`), and how an event leads to one (`Leads`), a start from what it finds
+-- (`judging`). While its window is open, time leaves it as it is.
 -- Assumes nothing.
 use Prim.Native.Nat.{ℕ}
-use mathlib.Core.Bool.{true, false, not, false≢true}
+use mathlib.Core.Bool.{Bool, true, false, not, false≢true}
 use mathlib.Core.Path.{_≡_, _∙_, sym, ap}
 use mathlib.Core.Logic.{_⊎_}
-use Rattle.base.specs.Reports.{noReason}
+use Rattle.base.specs.Reports.{noReason, restarted}
 use Rattle.units.specs.Units.{micros}
 use Rattle.units.specs.declared.Micros.{Micros}
 use Rattle.events.specs.declared.Kind.the-variants.{Address, WakeUp, Byte, Tick, Other}
@@ -17,7 +17,7 @@ use Rattle.phases.specs.declared.State.the-variants.{Down, Starting, Quiet, Hel
 use Rattle.phases.specs.declared.Phase.{Phase}
 use Rattle.moves.specs.Moves.{sinceOrigin, isIdle, isGoodLow}
 use Rattle.reports.specs.declared.Run.{Run}
-use Rattle.link.specs.Handling.{passed}
+use Rattle.link.specs.Handling.{passed, shut, begun}
 use Rattle.link.specs.Quick.{calmIn, isCalm}
 use Rattle.link.specs.declared.Link.{Link}
 use Rattle.link.proofs.Ways.{passed-calm}
@@ -59,10 +59,18 @@ module _ (l : Link) (e : Event) where
     pub right : judges (l .phase) ≡ noReason
     pub last : isLast (l .phase .start .stage) ≡ true
 
+  -- the phase that a start is judged from: time has passed, and what was open is closed
+  abbrev pub judging : Phase
+  judging = shut (passed (begun l e) (l .mark) (e .start)) restarted .phase
+
+  -- the line was idle long enough for it
+  abbrev pub hasIdled : Bool
+  hasIdled = isIdle (judging .idle) (l .mark) (e .start)
+
   -- THE EVENT LEADS TO AN INITIALIZATION: it starts one, or the link's goes on by a right byte that is not the last, or waits
   pub data Leads : Phase → Type 0 where
-    begins-slow : e .kind ≡ Address → isIdle (l .mark) (e .start) ≡ true → Leads (starting (micros 0) (slowStart (e .value)))
-    begins-fast : e .kind ≡ WakeUp → isIdle (l .mark) (e .start) ≡ true → isGoodLow (e .start) (e .end) ≡ true → Leads (starting (e .start) fastStart)
+    begins-slow : e .kind ≡ Address → hasIdled ≡ true → Leads (starting (micros 0) (slowStart (e .value)))
+    begins-fast : e .kind ≡ WakeUp → hasIdled ≡ true → isGoodLow (e .start) (e .end) ≡ true → Leads (starting (e .start) fastStart)
     grows : e .kind ≡ Byte → In (l .phase) → Open (l .phase) (l .mark) (e .start) → judges (l .phase) ≡ noReason → isLast (l .phase .start .stage) ≡ false
         → Leads (starting (l .phase .fall) (onward (l .phase .start) (e .value)))
     waits : (e .kind ≡ Tick) ⊎ (e .kind ≡ Other) → In (l .phase) → Open (l .phase) (l .mark) (e .start) → Leads (l .phase)

@@ -10,7 +10,7 @@ use borrow.Author.Tests.{ltb-true, lt-ltb}
 use lib.Dec.{eqb}
 use Rattle.base.specs.Reports.{damageReport, failedReport, noReplyReport, downReport, noReason, windowOver, idleOver}
 use Rattle.base.proofs.Tests.{and-split}
-use Rattle.units.specs.Units.{gapOf, isEarlier}
+use Rattle.units.specs.Units.{gapOf, isEarlier, micros}
 use Rattle.units.specs.declared.Micros.{Micros}
 use Rattle.timing.specs.Timing.{isUnlimited, isPassed}
 use Rattle.timing.specs.declared.Limit.{Limit}
@@ -85,14 +85,14 @@ module _ (mark : Micros) (e : Event) (p : Phase) where
   pub data Fourth : Phase → Type 0 where
     stays : InTime → (Waited p gap → ⊥) → Lasts → Fourth p
     stays-settled : Ended → Lasts → Fourth (settled p)
-    fallen : Idled p gap → Fourth down
+    fallen : Idled p gap → Fourth (down (micros 0))
 
   -- THE PHASE THAT TIME LEAVES
   pub data Left : Phase → Type 0 where
     same : InTime → (Waited p gap → ⊥) → Lasts → (Over p mark (e .start) → ⊥) → Left p
     ended : Ended → Lasts → Left (settled p)
-    idle : Idled p gap → Left down
-    over : Over p mark (e .start) → Left down
+    idle : Idled p gap → Left (down (micros 0))
+    over : Over p mark (e .start) → Left off
 
   ended-up : Ended → isConnected (p .state) ≡ true
   ended-up (inl x) = open-connected (p .state) (x .0)
@@ -103,14 +103,14 @@ module _ (mark : Micros) (e : Event) (p : Phase) where
   due-second (in-time f) w = waited (is-quiet (p .state) (w .0)) (w .1) (w .2)
   due-second (broken-off o s) w = absurd (open-unquiet (p .state) o (w .0))
 
-  pub due-third : {q : Phase} → Third q → Long p → Idled p gap → Rule mark e q at-p3 (makes downReport idleOver down)
+  pub due-third : {q : Phase} → Third q → Long p → Idled p gap → Rule mark e q at-p3 (makes downReport idleOver (down (micros 0)))
   unfolding settled talking isFirst
   due-third (awaits f w) g i =
-      open-or (Rule mark e p at-p3 (makes downReport idleOver down)) (p .state) (i .0)
+      open-or (Rule mark e p at-p3 (makes downReport idleOver (down (micros 0)))) (p .state) (i .0)
       (λ o. absurd (false≢true (sym (f o) ∙ long-silent (p .windows .p3max) gap (omega (arith, g (i .0) .p3max-long)) (i .1))))
       (λ q. by-first q (isFirst (p .reply)) refl)
     where
-      by-first : isQuiet (p .state) ≡ true → (b : Bool) → isFirst (p .reply) ≡ b → Rule mark e p at-p3 (makes downReport idleOver down)
+      by-first : isQuiet (p .state) ≡ true → (b : Bool) → isFirst (p .reply) ≡ b → Rule mark e p at-p3 (makes downReport idleOver (down (micros 0)))
       by-first q true k = absurd (w (q, k, i .2 q k))
       by-first q false k = idled (is-quiet (p .state) q) k (i .1)
   due-third (settles x) g i = idled refl refl (i .1)
@@ -160,7 +160,7 @@ module _ (mark : Micros) (e : Event) (p : Phase) where
     fourth-rule f q m (stays t w n) (expires s o) = (over (starting-is s, o), λ _. f (starting-is s, o))
     fourth-rule f q m (stays-settled x n) (rests u) = (ended x n, silent C (settled p))
     fourth-rule f q m (stays-settled x n) (expires s o) = absurd (false≢true (ap isStarting s))
-    fourth-rule f q m (fallen i) (rests u) = (idle i, silent C down)
+    fourth-rule f q m (fallen i) (rests u) = (idle i, silent C (down (micros 0)))
     fourth-rule f q m (fallen i) (expires s o) = absurd (false≢true (ap isStarting s))
 
   -- ---- the phase that time leaves, told by the one that it found

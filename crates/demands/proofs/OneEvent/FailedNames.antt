@@ -16,7 +16,7 @@ use Rattle.phases.specs.Phases.{isStarting}
 use Rattle.phases.specs.declared.State.{State}
 use Rattle.phases.specs.declared.State.the-variants.{Starting}
 use Rattle.moves.specs.declared.Move.{Move}
-use Rattle.moves.proofs.Rules.{Moment, Rule, rests, breaks-off, waited, idled, expires, cuts-off, aborts, leaves, starts-slow, starts-fast, hurries, low}
+use Rattle.moves.proofs.Rules.{Moment, Rule, rests, breaks-off, waited, idled, expires, cuts-off, aborts, leaves, starts-slow, starts-fast, hurries, low, drops}
 use Rattle.moves.proofs.Rules.{strays, misses, connects, goes-on, opens, errs, breaks, frames, grows, stops}
 use Rattle.reports.specs.Reporting.{namesBytes, reportOf}
 use Rattle.reports.specs.declared.Report.{Report}
@@ -74,6 +74,7 @@ module _ (l : Link) (e : Event) where
   rule-four k r m (cuts-off o) g z = absurd (omega arith)
   rule-four k r m (aborts s) g z = let x = same (r .named) s (g .2) in omega (arith, x, g .1)
   rule-four k r m (leaves c q) g z = absurd (omega arith)
+  rule-four k r m (drops d x) g z = absurd (omega arith)
   rule-four k r m (starts-slow a i) g z = absurd (omega arith)
   rule-four k r m (starts-fast w i o) g z = absurd (omega arith)
   rule-four k r m (hurries s i) g z = absurd (omega arith)

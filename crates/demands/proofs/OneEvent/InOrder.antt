@@ -18,7 +18,7 @@ use Rattle.events.specs.declared.Event.{Event}
 use Rattle.phases.specs.Phases.{isOpen, down, talking, settled}
 use Rattle.phases.specs.declared.Phase.{Phase}
 use Rattle.moves.specs.declared.Move.{Move}
-use Rattle.moves.proofs.Rules.{Moment, at-silence, at-p2, at-p3, at-window, at-closing, at-leaving, at-start, at-byte, at-stop, at-end, next}
+use Rattle.moves.proofs.Rules.{Moment, at-silence, at-p2, at-p3, at-window, at-closing, at-leaving, at-start, at-byte, at-stop, at-end, next, drops}
 use Rattle.moves.proofs.Rules.{Closes, by-drop, by-address, by-wake-up, Rule, rests, breaks-off, waited, idled, expires, cuts-off, aborts, leaves}
 use Rattle.moves.proofs.Rules.{starts-slow, starts-fast, hurries, low, strays, misses, connects, goes-on, opens, errs, breaks, frames, grows, stops}
 use Rattle.reports.specs.Reporting.{reportOf, moved}
@@ -120,6 +120,7 @@ rule-climbs mark e p k m (expires s o) = rw s
 rule-climbs mark e p k m (cuts-off o) = rw o
 rule-climbs mark e p k m (aborts s) = rw s
 rule-climbs mark e p k m (leaves c q) = rw (leaves-sixth c)
+rule-climbs mark e p k m (drops d x) = refl
 rule-climbs mark e p k m (starts-slow a i) = refl
 rule-climbs mark e p k m (starts-fast w i l) = refl
 rule-climbs mark e p k m (hurries s i) = refl

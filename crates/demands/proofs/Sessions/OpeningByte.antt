@@ -27,7 +27,7 @@ use Rattle.talk.specs.declared.Reply.{Reply}
 use Rattle.talk.specs.declared.Reply.the-variants.{Never}
 use Rattle.phases.specs.Phases.{isQuiet, isOpen, down, talking, settled}
 use Rattle.phases.specs.declared.Phase.{Phase}
-use Rattle.phases.proofs.StateTests.{open-or, quiet-shut}
+use Rattle.phases.proofs.StateTests.{open-or, quiet-shut, down-is}
 use Rattle.moves.specs.Moves.{isSilent}
 use Rattle.reports.specs.declared.Report.{Report}
 use Rattle.reports.specs.declared.Run.{Run}
@@ -39,7 +39,7 @@ use Rattle.link.specs.Telling.{passedTells, actedTells, handledTells}
 use Rattle.demands.specs.Logs.{Log, _▷_, heardIn, numberAfter, takenOf, InBytes, Begins, whole, more}
 use Rattle.demands.specs.Histories.{after, reportsTo, Says, isAmong, Among, Tells}
 use Rattle.demands.specs.Accounts.{heldIn}
-use Rattle.demands.specs.Connecting.{Connects}
+use Rattle.demands.specs.Connecting.{ConnectsBy}
 use Rattle.demands.specs.Sessions.{stops, pendingIn, Talk, talkAfter, Session, opens, lasts, inForce, gapBefore, OpensIn}
 use Rattle.demands.specs.Sessions.{replyOnceEnded, replyAt, Early, Stray, Turns}
 use Rattle.demands.specs.Messages.{Speaks, begins, refused, waits, grows, EndsInFrame, ReportsFrame}
@@ -49,7 +49,8 @@ use Rattle.demands.proofs.Histories.Holding.{holds-some}
 use Rattle.demands.proofs.Histories.Tiling.{sum-is}
 use Rattle.demands.proofs.Histories.Invariant.{kept-of}
 use Rattle.demands.proofs.Histories.Basics.{basics, held-is, answer-taken, calm}
-use Rattle.demands.proofs.Connecting.ConnectedReport.{connects-link}
+use Rattle.demands.proofs.Connecting.Running.{ownUntil}
+use Rattle.demands.proofs.Connecting.ConnectedReport.{own-connects-link}
 use Rattle.demands.proofs.Connecting.KeyBytes.{ours-opens}
 use Rattle.demands.proofs.Moves.Completing.{acted-byte}
 use Rattle.demands.proofs.Histories.BytesHeard.{byte-longer}
@@ -86,10 +87,6 @@ open-holds es p =
     let n = holds-some (l .phase .state) (l .named) (l .heard) p (kept-of es .holds) in
     let h = held-is es in
     omega arith
-
-down-loud : (p : Phase) → p ≡ down → isQuiet (p .state) ≡ false
-unfolding down isQuiet
-down-loud p q = ap (λ (x : Phase). isQuiet (x .state)) q
 
 -- ---- what opening a message is, by the reports of the byte's event
 pub record Opening (before : Log) (b : Event) (t : Talk) : Type 0 where
@@ -191,7 +188,7 @@ module _ (before : Log) (b : Event) (t : Talk) (i : InBytes before) (o : OpensIn
         talk = ap (talkAfter t (takenOf (before ▷ b))) reports-are ∙ q ∙ ap (withReply t) (sym (a .fits .reply) ∙ left .reply);
         alone = named-is ∙ a .calm (left .quiet) ∙ a .bytes;
       }
-      by-way (gone n f q) = absurd (false≢true (sym (down-loud (s .phase) q) ∙ left .quiet))
+      by-way (gone n f q) = absurd (false≢true (sym (down-is q .1) ∙ left .quiet))
 
   -- so it is a first byte of the session after it
   pub first-behind : inner.FirstOf (withReply t (replyOf before b t)) before b
@@ -218,10 +215,10 @@ not-connecting before b n k q a =
     let y = byte-longer before b n k in
     omega arith
 
-connected-quiet : (before : Log) (b : Event) → numberAfter (takenOf before) b ≡ taken → Connects (takenOf before) b
+connected-quiet : (before : Log) (b : Event) → numberAfter (takenOf before) b ≡ taken → ConnectsBy ownUntil (takenOf before) b
     → isQuiet (after ours (before ▷ b) .link .phase .state) ≡ true
 unfolding after isQuiet
-connected-quiet before b n c = ap isQuiet (connects-link before b n c .state)
+connected-quiet before b n c = ap isQuiet (own-connects-link before b n c .state)
 
 module _ (before : Log) (b : Event) (t : Talk) (i : InBytes before) (session : Session ours before t) (up : Says downReport (reportsTo ours before b) → ⊥)
     (kind : b .kind ≡ Byte) (number : numberAfter (takenOf before) b ≡ taken) (alone : after ours (before ▷ b) .link .named ≡ length (heardIn before)) where

@@ -37,7 +37,7 @@ use Rattle.talk.specs.declared.Request.the-variants.{Ordinary, Stop, OwnTiming,
 use Rattle.talk.specs.declared.Message.{Message}
 use Rattle.talk.specs.Messages.{endsIn, isMessage}
 use Rattle.phases.specs.Phases.{isQuiet, isHeld, isOpen, isConnected, down, talking, holding, damaged, timed, asked, answered, framed}
-use Rattle.phases.specs.declared.State.the-variants.{Quiet, Damage}
+use Rattle.phases.specs.declared.State.the-variants.{Quiet, Damage, Down}
 use Rattle.phases.specs.declared.Phase.{Phase}
 use Rattle.phases.proofs.StateTests.{quiet-is}
 use Rattle.moves.specs.Moves.{still, makes, lossReason, reasonAtFirst}
@@ -569,9 +569,9 @@ module _ (es : Log) (e : Event) (all : List Report) (kind : e .kind ≡ Byte) (n
 
       frame-over : (q : Phase) → e .side ≡ Unit → Stops
           → Each (λ (z : Report). Among z all)
-          (tells (hearing r) (makes frameReport noReason q) ++ tells (behindFrame q) (makes downReport stopped down))
-          → Ends es e all t (tells (hearing r) (makes frameReport noReason q) ++ tells (behindFrame q) (makes downReport stopped down))
-          (moved (behindFrame q) (makes downReport stopped down))
+          (tells (hearing r) (makes frameReport noReason q) ++ tells (behindFrame q) (makes downReport stopped (down (q .windows .p3min))))
+          → Ends es e all t (tells (hearing r) (makes frameReport noReason q) ++ tells (behindFrame q) (makes downReport stopped (down (q .windows .p3min))))
+          (moved (behindFrame q) (makes downReport stopped (down (q .windows .p3min))))
       unfolding tells moved told reportOf isAmong down isConnected
       frame-over q u z i =
           over refl
@@ -632,7 +632,7 @@ module _ (es : Log) (e : Event) (all : List Report) (kind : e .kind ≡ Byte) (n
   Outside t r m = (n : Move) → Rule mark e (moved (hearing r) m .phase) at-stop n
       → Each (Told es e all t) (heardTells r m n) × (isConnected (heardRun r m n .phase .state) ≡ false)
 
-  outside : (t : Talk) (r : Run) → Outside t r (makes outsideReport noReason down)
+  outside : (t : Talk) (r : Run) → Outside t r (makes outsideReport noReason (down (r .phase .idle)))
   unfolding tells moved told reportOf down isQuiet isConnected
   outside t r n (rests u) = (
     each-both (Told es e all t) (_ ∷ []) []
@@ -642,6 +642,5 @@ module _ (es : Log) (e : Event) (all : List Report) (kind : e .kind ≡ Byte) (n
   )
   outside t r n (stopped-by s x) = absurd (false≢true (ap isQuiet s))
 
-  pub byte-outside : (t : Talk) (r : Run) (m : Move) → Rule mark e (r .phase) at-byte m → r .phase ≡ down → Outside t r m
-  unfolding down
-  byte-outside t r m u q = subst (Outside t r) (one-move mark e (r .phase) (strays (ap (λ (p : Phase). p .state) q)) u) (outside t r)
+  pub byte-outside : (t : Talk) (r : Run) (m : Move) → Rule mark e (r .phase) at-byte m → r .phase .state ≡ Down → Outside t r m
+  byte-outside t r m u q = subst (Outside t r) (one-move mark e (r .phase) (strays q) u) (outside t r)

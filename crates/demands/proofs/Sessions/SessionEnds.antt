@@ -10,10 +10,11 @@ use Rattle.base.specs.Reports.{downReport}
 use Rattle.units.specs.declared.Micros.{Micros}
 use Rattle.events.specs.declared.Event.{Event}
 use Rattle.phases.specs.Phases.{isOpen, isConnected, down, starting}
+use Rattle.phases.specs.declared.State.the-variants.{Down}
 use Rattle.phases.specs.declared.Phase.{Phase}
-use Rattle.phases.proofs.StateTests.{open-or-quiet}
+use Rattle.phases.proofs.StateTests.{open-or-quiet, down-unconnected}
 use Rattle.moves.specs.declared.Move.{Move}
-use Rattle.moves.proofs.Rules.{at-leaving, at-start, Rule, rests, leaves, starts-slow, starts-fast, hurries, low}
+use Rattle.moves.proofs.Rules.{at-leaving, at-start, Rule, rests, leaves, starts-slow, starts-fast, hurries, low, drops}
 use Rattle.reports.specs.Reporting.{reportOf, moved}
 use Rattle.reports.specs.declared.Report.{Report}
 use Rattle.reports.specs.declared.Run.{Run}
@@ -36,7 +37,7 @@ module _ (es : Log) (e : Event) (all : List Report) where
   -- after passing time
   pub behind : (t : Talk) (rs ss : List Report) (r s : Run) → Passes es e all t rs r
       → ((u : Talk) → At es u (r .phase) (r .named) (r .heard) → Ends u ss s)
-      → (r .phase ≡ down → Each (Told es e all t) ss × (isConnected (s .phase .state) ≡ false)) → Ends t (rs ++ ss) s
+      → (r .phase .state ≡ Down → Each (Told es e all t) ss × (isConnected (s .phase .state) ≡ false)) → Ends t (rs ++ ss) s
   behind t rs ss r s (up reply n f q a) g d = on (g (withReply t reply) a)
     where
       on : Ends (withReply t reply) ss s → Ends t (rs ++ ss) s
@@ -49,17 +50,13 @@ module _ (es : Log) (e : Event) (all : List Report) where
       let x = d q in
       over (says-first es e all rs ss n) (each-both (Told es e all t) rs ss f (x .0)) (x .1)
 
-  down-unconnected : (p : Phase) → p ≡ down → isConnected (p .state) ≡ false
-  unfolding down isConnected
-  down-unconnected p q = ap (λ (x : Phase). isConnected (x .state)) q
-
   -- ---- A TICK
   pub tick-ends : (t : Talk) (rs : List Report) (r : Run) → heardIn (es ▷ e) ≡ heardIn es
       → (isOpen (r .phase .state) ≡ true → (u : Talk) → SpeaksOn es e u) → Passes es e all t rs r → Ends t rs r
   tick-ends t rs r q f (up reply n g x a) =
       still-up n g (λ _ _. subst (λ (u : Talk). At (es ▷ e) u (r .phase) (r .named) (r .heard)) (sym x)
       (at-more es e (withReply t reply) (r .phase) (r .named) q (r .heard) (λ o. f o (withReply t reply)) a))
-  tick-ends t rs r q f (gone n g x) = over n g (down-unconnected (r .phase) x)
+  tick-ends t rs r q f (gone n g x) = over n g (down-unconnected x)
 
   -- ---- A, W AND D: with nothing open, what is connected is left ..
   pub record Gone (t : Talk) (rs : List Report) (r : Run) : Type 0 where
@@ -69,14 +66,15 @@ module _ (es : Log) (e : Event) (all : List Report) where
 
   left-off : (mark : Micros) (p : Phase) (m : Move) → Rule mark e p at-leaving m → isOpen (p .state) ≡ false → isConnected (m .phase .state) ≡ true → ⊥
   unfolding down isConnected
-  left-off mark p m (rests u) o c = false≢true (sym u ∙ open-or-quiet (p .state) c o)
+  left-off mark p m (rests u) o c = false≢true (sym (u .0) ∙ open-or-quiet (p .state) c o)
   left-off mark p m (leaves k q) o c = false≢true c
+  left-off mark p m (drops d k) o c = false≢true c
 
   pub leaves-gone : (mark : Micros) (t : Talk) (rs : List Report) (r : Run) (m : Move) → Rule mark e (r .phase) at-leaving m → isOpen (r .phase .state) ≡ false
       → Passes es e all t (rs ++ tells r m) (moved r m) → Gone t (rs ++ tells r m) (moved r m)
   leaves-gone mark t rs r m u o (up reply n f q a) =
       absurd (left-off mark (r .phase) m u o (sym (ap (λ (p : Phase). isConnected (p .state)) (moved-phase r m)) ∙ a .fits .connected))
-  leaves-gone mark t rs r m u o (gone n f q) = record { said = n; each = f; off = down-unconnected (moved r m .phase) q }
+  leaves-gone mark t rs r m u o (gone n f q) = record { said = n; each = f; off = down-unconnected q }
 
   -- .. and a start connects nothing
   start-rule : (mark : Micros) (r : Run) (m : Move) → Rule mark e (r .phase) at-start m

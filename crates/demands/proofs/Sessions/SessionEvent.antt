@@ -33,15 +33,16 @@ use Rattle.link.specs.Stepping.{refusedBy, takenBy}
 use Rattle.link.specs.declared.Link.{Link}
 use Rattle.link.specs.declared.Answer.{Answer}
 use Rattle.link.specs.Telling.{tells, passedTells, handledTells}
-use Rattle.link.proofs.Walk.{moved-phase, Reached, act-walk-by}
+use Rattle.link.proofs.Walk.{moved-phase, Reached, Here, act-walk-by}
 use Rattle.link.proofs.Three.{three-enough}
 use Rattle.link.proofs.Long.{passed-recent}
 use Rattle.demands.specs.Logs.{Log, _▷_, heardIn, numberAfter, takenOf, InBytes}
 use Rattle.demands.specs.Histories.{after, reportsTo, Says, isAmong, Among}
-use Rattle.demands.specs.Connecting.{Connects}
+use Rattle.demands.specs.Connecting.{ConnectsBy}
 use Rattle.demands.specs.Sessions.{pendingIn, windowsIn, Talk, opening, talkAfter, Session, opens, lasts}
 use Rattle.demands.proofs.Histories.Basics.{basics, answer-taken, answer-refused, calm}
-use Rattle.demands.proofs.Connecting.ConnectedReport.{connects-link}
+use Rattle.demands.proofs.Connecting.Running.{ownUntil}
+use Rattle.demands.proofs.Connecting.ConnectedReport.{own-connects-link}
 use Rattle.demands.proofs.Connecting.KeyBytes.{ours-opens}
 use Rattle.demands.proofs.Sessions.MessageData.{Kept, kept-none}
 use Rattle.demands.proofs.Moves.ReportsInList.{Each, each-none, among-right}
@@ -113,23 +114,23 @@ module _ (es : Log) (e : Event) (t : Talk) (b : InBytes (es ▷ e)) (number : nu
         (λ y j. i y (subst (Among y) (sym q) (among-right xs j))))
         (λ d. byte-outside es e all k number one room front bytes (here .mark) mark t s m u d n v))
 
-    moves : (k : Moment) → Reached e k → (r : Run) (xs : List Report) (m : Move) → Rule (here .mark) e (r .phase) k m → I k r xs
-        → I (nextOf k) (moved r m) (xs ++ tells r m)
-    unfolding nextOf down isOpen isStarting isQuiet
-    moves at-silence w r xs m u i = absurd i
-    moves at-p2 w r xs m u i = absurd i
-    moves at-p3 w r xs m u i = absurd i
-    moves at-window w r xs m u i = absurd i
-    moves at-closing w r xs m u i = (
-      next es e all (here .mark) at-closing (closing-rule es e all (here .mark)) (refl, refl) t xs r m u (i .0),
+    moves : (k : Moment) → Reached e k → (r : Run) → Here (passed (begun here e) (here .mark) (e .start)) k (r .phase) → (xs : List Report) (m : Move)
+        → Rule (here .mark) e (r .phase) k m → I k r xs → I (nextOf k) (moved r m) (xs ++ tells r m)
+    unfolding nextOf
+    moves at-silence w r h xs m u i = absurd i
+    moves at-p2 w r h xs m u i = absurd i
+    moves at-p3 w r h xs m u i = absurd i
+    moves at-window w r h xs m u i = absurd i
+    moves at-closing w r h xs m u i = (
+      next es e all (here .mark) at-closing (closing-rule es e all (here .mark)) tt t xs r m u (i .0),
       ap (λ (p : Phase). isOpen (p .state)) (moved-phase r m) ∙ closes (r .phase) m u,
     )
-    moves at-leaving w r xs m u i =
-        leaves-gone es e all (here .mark) t xs r m u (i .1) (next es e all (here .mark) at-leaving (leaving-rule es e all (here .mark)) refl t xs r m u (i .0))
-    moves at-start w r xs m u i = λ _. start-ends es e all (here .mark) t xs r m u i
-    moves at-byte w r xs m u i = hears-byte w r xs m u i
-    moves at-stop w r xs m u i = i m u
-    moves at-end w r xs m (rests u) i = absurd u
+    moves at-leaving w r h xs m u i =
+        leaves-gone es e all (here .mark) t xs r m u (i .1) (next es e all (here .mark) at-leaving (leaving-rule es e all (here .mark)) tt t xs r m u (i .0))
+    moves at-start w r h xs m u i = λ _. start-ends es e all (here .mark) t xs r m u i
+    moves at-byte w r h xs m u i = hears-byte w r xs m u i
+    moves at-stop w r h xs m u i = i m u
+    moves at-end w r h xs m (rests u) i = absurd u
 
     tick-done : (e .kind ≡ Tick) ⊎ (e .kind ≡ Other) → (r : Run) (xs : List Report) → I at-closing r xs → Done r xs
     unfolding isByte
@@ -141,8 +142,8 @@ module _ (es : Log) (e : Event) (t : Talk) (b : InBytes (es ▷ e)) (number : nu
   handled-ends a =
       let all = handledTells here e in
       let r = begun here e in
-      act-walk-by (here .mark) e (I all) (moves all) (λ _ s xs i. heard s (i .0) (i .1)) (λ _ s xs g _. over (g .said) (g .each) (g .off)) (tick-done all)
-      (passed r (here .mark) (e .start)) (passedTells r (here .mark) (e .start))
+      act-walk-by (here .mark) e r (I all) (moves all) (λ _ s xs i. heard s (i .0) (i .1)) (λ _ s xs g _. over (g .said) (g .each) (g .off)) (tick-done all)
+      (passedTells r (here .mark) (e .start))
       (passed-step es e all t r (here .mark) a, λ o. in-time (passed-recent (here .mark) (e .start) r o)) (λ x i. i)
 
 -- ---- any event, as the step answers it
@@ -194,10 +195,10 @@ event-ends es e t b a = by-number (eqb (numberAfter (takenOf es) e) taken) refl
         subst (Answered es e t) (sym (answer-refused es e (eqb-false (numberAfter (takenOf es) e) taken n))) (refused-ends es e t _ n a)
 
 -- ---- a session from its beginning on
-opens-at : (es : Log) (e : Event) → numberAfter (takenOf es) e ≡ taken → (c : Connects (takenOf es) e) → AtLink (es ▷ e) (opening (c .pair))
+opens-at : (es : Log) (e : Event) → numberAfter (takenOf es) e ≡ taken → (c : ConnectsBy ownUntil (takenOf es) e) → AtLink (es ▷ e) (opening (c .pair))
 unfolding after isConnected isQuiet isOpen isStarting windowsIn pendingIn
 opens-at es e n c =
-    let x = connects-link es e n c in
+    let x = own-connects-link es e n c in
     let p = after ours (es ▷ e) .link .phase in
     record {
       fits = record {

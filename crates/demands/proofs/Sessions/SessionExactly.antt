@@ -14,7 +14,7 @@ use Rattle.link.specs.Handling.{freshLink}
 use Rattle.demands.specs.Logs.{Log, none, _▷_, InBytes}
 use Rattle.demands.specs.Histories.{after, reportsTo, Says}
 use Rattle.demands.specs.Sessions.{Talk, Session, opens, lasts, SomeSession}
-use Rattle.demands.proofs.Connecting.BecomesConnected.{becomes-connected-exactly}
+use Rattle.demands.proofs.Connecting.BecomesConnected.{own-becomes-exactly}
 use Rattle.demands.proofs.Connecting.KeyBytes.{ours-made}
 use Rattle.demands.proofs.Sessions.SessionEnds.{Ends, still-up, over}
 use Rattle.demands.proofs.Sessions.SessionEvent.{event-ends, session-at}
@@ -44,7 +44,7 @@ last-event es e b true c f n =
           (event-ends es e (x .talk) b (session-at (b .0) (x .session))) n);
     }
 last-event es e b false c f n =
-    let x = becomes-connected-exactly es e .0 (c, n) in
+    let x = own-becomes-exactly es e .0 (c, n) in
     record { talk = _; session = opens (ours-made es e (x .0) (x .1)) refl }
 
 connected-session : (es : Log) → InBytes es → isConnected (after ours es .link .phase .state) ≡ true → SomeSession ours es

@@ -2,17 +2,20 @@
 -- it is shown what `Shows` says.
 -- Assumes nothing.
 use Prim.Native.Nat.{ℕ, _+_}
-use mathlib.Core.Bool.{Bool, true, false, _||_, false≢true}
-use mathlib.Core.List.{List, _∷_, _++_, append-nil}
+use mathlib.Core.Bool.{Bool, true, false, _||_, false≢true, _&&_}
+use mathlib.Core.List.{List, [], _∷_, _++_, append-nil}
 use mathlib.Core.Path.{_≡_, refl, sym, ap, _∙_, subst}
 use mathlib.Core.Logic.{_↔_, _⊎_, ⊎-elim}
 use native.Mathlib.Omega.{arith}
+use lib.Dec.{eqb}
 use lib.ListN.{length, drop}
 use Rattle.base.specs.Choice.{if_then_else_}
-use Rattle.base.specs.Reports.{frameReport, damageReport, noReplyReport, downReport, noReason, brokenOff, closed, early, stray, stopped, idleOver}
-use Rattle.units.specs.Units.{gapOf}
+use Rattle.base.specs.Reports.{frameReport, damageReport, noReplyReport, downReport, noReason, brokenOff, closed, early, stray, stopped, idleOver, dropped}
+use Rattle.base.proofs.Tests.{by-test}
+use Rattle.units.specs.Units.{micros, gapOf}
 use Rattle.units.specs.declared.Micros.{Micros}
 use Rattle.keys.specs.declared.Pair.{Pair}
+use Rattle.timing.specs.Timing.{idleAtPowerOn}
 use Rattle.frame.specs.Read.{dataOf}
 use Rattle.events.specs.declared.Side.{Side}
 use Rattle.events.specs.declared.Side.the-variants.{Unit}
@@ -21,18 +24,21 @@ use Rattle.talk.specs.Talk.{headReason, firstReason}
 use Rattle.talk.specs.Talk.{begun as opening-message}
 use Rattle.talk.specs.declared.Reply.{Reply}
 use Rattle.talk.specs.declared.Reply.the-variants.{Never}
-use Rattle.phases.specs.Phases.{isStarting, isQuiet, isHeld, isOpen, isConnected, down, talking, settled}
+use Rattle.phases.specs.Phases.{isDown, isStarting, isQuiet, isHeld, isOpen, isConnected, down, off, talking, settled}
+use Rattle.phases.specs.declared.State.the-variants.{Down}
 use Rattle.phases.specs.declared.Phase.{Phase}
-use Rattle.phases.proofs.StateTests.{never-starting, quiet-is, starting-is}
-use Rattle.moves.specs.Moves.{still, makes, lossReason, afterSilence, afterP2, afterP3}
+use Rattle.phases.proofs.StateTests.{never-starting, down-unconnected, quiet-is, starting-is}
+use Rattle.moves.specs.Moves.{still, makes, lossReason, afterSilence, afterP2, afterP3, afterWindow, closing, leaving}
 use Rattle.moves.specs.declared.Move.{Move}
-use Rattle.moves.proofs.Rules.{Moment, at-silence, at-p2, at-p3, at-window, at-closing, at-leaving, Closes, by-drop, by-address, by-wake-up, Unmoved, Rule, rests}
-use Rattle.moves.proofs.Rules.{breaks-off, waited, idled, expires, cuts-off, aborts, leaves, by-silence, by-p2, by-p3, by-window, one-move}
+use Rattle.moves.proofs.Rules.{Moment, at-silence, at-p2, at-p3, at-window, at-closing, at-leaving, at-start, at-byte, at-stop, at-end}
+use Rattle.moves.proofs.Rules.{Closes, by-drop, by-address, by-wake-up, reasonOf, Rule, rests}
+use Rattle.moves.proofs.Rules.{breaks-off, waited, idled, expires, cuts-off, aborts, leaves, drops, by-silence, by-p2, by-p3, by-window, moveAt, is-move}
 use Rattle.reports.specs.Reporting.{namesBytes, reportOf, told, moved}
 use Rattle.reports.specs.declared.Report.{Report}
 use Rattle.reports.specs.declared.Run.{Run}
 use Rattle.link.specs.Handling.{passed}
 use Rattle.link.specs.Telling.{tells, passedTells}
+use Rattle.link.proofs.Walk.{moved-phase, BeforeStart}
 use Rattle.demands.specs.Logs.{Log, _▷_, bytesOf, heardIn, takenOf, Begins, more}
 use Rattle.demands.specs.Refusals.{Not}
 use Rattle.demands.specs.Editions.{isLinkPair, isFrame}
@@ -178,7 +184,7 @@ module _ (es : Log) (e : Event) (all : List Report) where
   pub data Passes (t : Talk) (rs : List Report) (r : Run) : Type 0 where
     up : (reply : Reply) → isAmong downReport rs ≡ false → Each (Told t) rs → talked t rs ≡ withReply t reply
         → At es (withReply t reply) (r .phase) (r .named) (r .heard) → Passes t rs r
-    gone : isAmong downReport rs ≡ true → Each (Told t) rs → r .phase ≡ down → Passes t rs r
+    gone : isAmong downReport rs ≡ true → Each (Told t) rs → r .phase .state ≡ Down → Passes t rs r
 
   -- a move that makes no report
   stays : (t : Talk) (r : Run) → At es t (r .phase) (r .named) (r .heard) → Passes t (tells r (still (r .phase))) (moved r (still (r .phase)))
@@ -254,10 +260,10 @@ module _ (es : Log) (e : Event) (all : List Report) where
       up Never refl (each-one (Told t) _ (plain t _ (λ n. omega arith) (λ n. omega arith) (λ n. absurd (omega arith)))) refl
       (settled-at t (r .phase) (r .named) (r .named) (r .heard) a (a .calm q))
 
-  goes-down : (t : Talk) (r : Run) (reason : ℕ) → (reason ≡ stopped → ⊥)
-      → Passes t (tells r (makes downReport reason down)) (moved r (makes downReport reason down))
-  unfolding tells moved told reportOf isAmong
-  goes-down t r reason h = gone refl (each-one (Told t) _ (plain t _ (λ n. omega arith) (λ n. omega arith) (λ n. h))) refl
+  goes-down : (t : Talk) (r : Run) (reason : ℕ) (idle : Micros) → (reason ≡ stopped → ⊥)
+      → Passes t (tells r (makes downReport reason (down idle))) (moved r (makes downReport reason (down idle)))
+  unfolding tells moved told reportOf isAmong down
+  goes-down t r reason idle h = gone refl (each-one (Told t) _ (plain t _ (λ n. omega arith) (λ n. omega arith) (λ n. h))) refl
 
   -- ---- THE RULES up to where all that is open is closed, in a session
   module _ (mark : Micros) where
@@ -274,7 +280,7 @@ module _ (es : Log) (e : Event) (all : List Report) where
 
     p3-rule : Moves at-p3
     p3-rule t r m (rests u) a = stays t r a
-    p3-rule t r m (idled q f s) a = goes-down t r idleOver (λ z. omega arith)
+    p3-rule t r m (idled q f s) a = goes-down t r idleOver (micros 0) (λ z. omega arith)
 
     window-rule : Moves at-window
     window-rule t r m (rests u) a = stays t r a
@@ -292,7 +298,8 @@ module _ (es : Log) (e : Event) (all : List Report) where
 
     pub leaving-rule : Moves at-leaving
     leaving-rule t r m (rests u) a = stays t r a
-    leaving-rule t r m (leaves c q) a = goes-down t r _ (not-stopped c)
+    leaving-rule t r m (leaves c q) a = goes-down t r _ idleAtPowerOn (not-stopped c)
+    leaving-rule t r m (drops d k) a = absurd (false≢true (sym (down-unconnected d) ∙ a .fits .connected))
 
   -- ---- one move after another
   or-first : (a b : Bool) → a ≡ true → (a || b) ≡ true
@@ -319,12 +326,30 @@ module _ (es : Log) (e : Event) (all : List Report) where
       → talked t (rs ++ ss) ≡ talked (withReply t reply) ss
   talked-both t reply rs ss q = talk-both t (takenOf (es ▷ e)) rs ss ∙ ap (λ (u : Talk). talked u ss) q
 
-  gone-on : (t : Talk) (rs : List Report) (r : Run) → Passes t rs r → Passes t (rs ++ tells r (still (r .phase))) (moved r (still (r .phase)))
-  unfolding tells moved
-  gone-on t rs r p = subst (λ (xs : List Report). Passes t xs r) (sym (append-nil rs)) p
+  -- up to a start, a link that is down makes no report and stays down
+  abbrev StaysDown : Move → Type 0
+  StaysDown m = (eqb (m .number) 0 ≡ true) × (m .phase .state ≡ Down)
 
-  -- a link that is down rests
-  pub next : (mark : Micros) (k : Moment) → Moves mark k → Unmoved mark e down k → (t : Talk) (rs : List Report) (r : Run) (m : Move)
+  down-rests : (mark : Micros) (k : Moment) (p : Phase) → BeforeStart k → p .state ≡ Down → StaysDown (moveAt mark e p k)
+  unfolding isOpen isQuiet isStarting down afterSilence afterP2 afterP3 afterWindow closing leaving
+  down-rests mark at-silence p b d = rw (ap isOpen d) (refl, d)
+  down-rests mark at-p2 p b d = rw (ap isQuiet d) (refl, d)
+  down-rests mark at-p3 p b d = rw (ap isQuiet d) (refl, d)
+  down-rests mark at-window p b d = rw (ap isStarting d) (refl, d)
+  down-rests mark at-closing p b d = rw (ap isOpen d, ap isStarting d) (refl, d)
+  down-rests mark at-leaving p b d =
+      rw (ap isQuiet d)
+      (by-test StaysDown (isDown (p .state) && eqb (reasonOf (e .kind)) dropped) {x = still off} {y = still p} (λ _. (refl, refl)) (λ _. (refl, d)))
+  down-rests mark at-start p b d = absurd b
+  down-rests mark at-byte p b d = absurd b
+  down-rests mark at-stop p b d = absurd b
+  down-rests mark at-end p b d = absurd b
+
+  none-told : (r : Run) (m : Move) → eqb (m .number) 0 ≡ true → tells r m ≡ []
+  unfolding tells
+  none-told r m z = rw z refl
+
+  pub next : (mark : Micros) (k : Moment) → Moves mark k → BeforeStart k → (t : Talk) (rs : List Report) (r : Run) (m : Move)
       → Rule mark e (r .phase) k m → Passes t rs r → Passes t (rs ++ tells r m) (moved r m)
   next mark k f d t rs r m u (up reply n g q a) = on (f (withReply t reply) r m u a)
     where
@@ -333,19 +358,20 @@ module _ (es : Log) (e : Event) (all : List Report) where
           up again (says-none rs (tells r m) n o) (each-both (Told t) rs (tells r m) g h) (talked-both t reply rs (tells r m) q ∙ p) b
       on (gone o h p) = gone (says-second rs (tells r m) o) (each-both (Told t) rs (tells r m) g h) p
   next mark k f d t rs r m u (gone n g q) =
-      subst (λ (x : Move). Passes t (rs ++ tells r x) (moved r x))
-      (one-move mark e (r .phase) (rests (subst (λ (p : Phase). Unmoved mark e p k) (sym q) d)) u) (gone-on t rs r (gone n g q))
+      let x = subst StaysDown (sym (is-move mark e (r .phase) u)) (down-rests mark k (r .phase) d q) in
+      subst (λ (xs : List Report). Passes t xs (moved r m)) (sym (ap (λ (xs : List Report). rs ++ xs) (none-told r m (x .0)) ∙ append-nil rs))
+      (gone n g (ap (λ (p : Phase). p .state) (moved-phase r m) ∙ x .1))
 
   -- TIME PASSES IN A SESSION
   pub passed-step : (t : Talk) (r : Run) (mark : Micros) → At es t (r .phase) (r .named) (r .heard)
       → Passes t (passedTells r mark (e .start)) (passed r mark (e .start))
-  unfolding passedTells passed down isQuiet isStarting
+  unfolding passedTells passed
   passed-step t r mark a =
       let gap = gapOf mark (e .start) in
       let r1 = moved r (afterSilence (r .phase) gap) in
       let r2 = moved r1 (afterP2 (r1 .phase) gap) in
       let r3 = moved r2 (afterP3 (r2 .phase) gap) in
       let s1 = silence-rule mark t r _ (by-silence mark e (r .phase)) a in
-      let s2 = next mark at-p2 (p2-rule mark) refl t _ r1 _ (by-p2 mark e (r1 .phase)) s1 in
-      let s3 = next mark at-p3 (p3-rule mark) refl t _ r2 _ (by-p3 mark e (r2 .phase)) s2 in
-      next mark at-window (window-rule mark) refl t _ r3 _ (by-window mark e (r3 .phase)) s3
+      let s2 = next mark at-p2 (p2-rule mark) tt t _ r1 _ (by-p2 mark e (r1 .phase)) s1 in
+      let s3 = next mark at-p3 (p3-rule mark) tt t _ r2 _ (by-p3 mark e (r2 .phase)) s2 in
+      next mark at-window (window-rule mark) tt t _ r3 _ (by-window mark e (r3 .phase)) s3

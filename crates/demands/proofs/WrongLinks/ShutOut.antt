@@ -1,6 +1,6 @@
 -- The wrong programs of document 01, and the accident, are shut out: each breaks a demand, by what antt computes of it (Computed.antt).
 -- Assumes nothing.
-use Prim.Native.Nat.{ℕ, _<_}
+use Prim.Native.Nat.{ℕ, _+_, _<_}
 use mathlib.Core.Bool.{Bool, true, false, false≢true}
 use mathlib.Core.List.{List, [], _∷_}
 use mathlib.Core.Logic.{_⊎_, ⊎-elim}
@@ -18,19 +18,24 @@ use Rattle.events.specs.Events.{isByte, isOther, isNobody, isUnknown, isTooLate
 use Rattle.events.specs.declared.Event.{Event}
 use Rattle.reports.specs.Reporting.{appended, listed}
 use Rattle.reports.specs.Counting.{zeroCounts}
+use Rattle.timing.specs.Timing.{idleAtPowerOn}
+use Rattle.reports.specs.declared.Report.{Report}
 use Rattle.reports.specs.declared.Reports.{Reports}
 use Rattle.reports.specs.declared.Counts.{Counts}
 use Rattle.link.specs.Stepping.{numberOf, refusedBy, answerOf, stepOf}
-use Rattle.demands.specs.Logs.{none, _▷_, countOf, clockOf, numberAfter, takenOf}
+use Rattle.demands.specs.Logs.{none, _▷_, markOf, countOf, clockOf, numberAfter, takenOf}
 use Rattle.link.specs.declared.Link.{Link}
 use Rattle.demands.specs.Refusals.{Above}
-use Rattle.demands.specs.Histories.{after, reportsTo, isAmong}
-use Rattle.demands.proofs.Connecting.Example.{fastEvents, fastLast, fast-connects, fast-number}
+use Rattle.demands.specs.Histories.{Machine, after, reportsTo, folded, isAmong}
+use Rattle.demands.specs.Idle.{p3minIn, idleIn, askedAfter, idleAsked, idleUntil}
+use Rattle.demands.proofs.Connecting.Example.{wakeAt, fastEvents, fastLast, fast-connects, fast-number, allBytes, in-bytes}
 use Rattle.demands.specs.Wrong.{refusing, outsideStep, outside, unchanged, idling, inventing, behind, twice, forgetting, possessive, disordered, repeating, moving, shifting}
+use Rattle.demands.specs.Wrong.{patient, unaware, unmoved, strict, hasty}
 use Rattle.demands.specs.DemandOne.{DemandOne}
 use Rattle.demands.specs.DemandTwo.{DemandTwo}
 use Rattle.demands.specs.DemandThree.{DemandThree}
-use Rattle.demands.proofs.WrongLinks.Computed.{tick, twoBytes, unknown, oneByte, oneHeard, retiming, cutOff, tooSoon, asking, tooLate, addressed, unheard, lowWrong, is-fair, in-order, named-by, computed}
+use Rattle.demands.proofs.WrongLinks.Computed.{tick, twoBytes, unknown, oneByte, oneHeard, retiming, cutOff, tooSoon, asking, tooLate, addressed, unheard, lowWrong, stopping, stoppingLate, dropping, hurrying}
+use Rattle.demands.proofs.WrongLinks.Computed.{is-fair, in-order, named-by, is-fair-start, computed}
 
 -- ---- DEMAND 3 SHUTS OUT ..
 -- .. a step that leaves the link unchanged: two bytes are both reported with index 0
@@ -91,11 +96,17 @@ unfolding isAmong listed appended stepOf answerOf refusedBy
 no-three true l c e q = rw q (by-test (λ (rs : Reports). isAmong connectedReport (listed rs) ≡ false) (isByte (e .kind)) (λ t. refl) (λ t. refl))
 no-three false l c e q = rw q
 
+first-idle : (m : Machine) (e : Event) → reportsTo m none e ≡ [] → idleUntil m none e ≡ 300_000
+unfolding markOf idleAsked idleIn folded
+first-idle m e q = ap (λ (rs : List Report). 0 + folded (askedAfter (p3minIn m none)) idleAtPowerOn rs .0) q
+
 pub outside-shut : DemandTwo outside → ⊥
-unfolding takenOf numberAfter clockOf countOf refusal isUnknown isTooLate isOutOfOrder isOther isByte isNobody
+unfolding takenOf numberAfter clockOf countOf refusal isUnknown isTooLate isOutOfOrder isOther isByte isNobody allBytes
 outside-shut d =
     let h = after outside fastEvents in
-    false≢true (sym (no-three (eqb (numberOf (h .link) (h .counts) fastLast) taken) (h .link) (h .counts) fastLast refl) ∙ d .connects-exactly fastEvents fastLast .1 (fast-number, fast-connects))
+    let i = first-idle outside (wakeAt 300_000) (computed .outside-silent) in
+    false≢true (sym (no-three (eqb (numberOf (h .link) (h .counts) fastLast) taken) (h .link) (h .counts) fastLast refl)
+    ∙ d .connects-exactly fastEvents fastLast (in-bytes fastEvents refl) .1 (fast-number, fast-connects 300_000 outside none (omega (arith, i))))
 
 -- ---- DEMAND 2 SHUTS OUT, by the order of an event's reports and by what a report 4 names, ..
 -- .. one that gives an event's reports in another order: 8, 7, 2 when a wake-up comes too soon and cuts a message off
@@ -113,6 +124,27 @@ moving-shut d = false≢true (sym (computed .of-moving) ∙ in-order 0 (reportsT
 -- .. one that moves it to another report 4 of the same event: 4 with reason 1 and 4 with reason 3, when a wake-up that is low too long comes instead
 pub shifting-shut : DemandTwo shifting → ⊥
 shifting-shut d = false≢true (sym (computed .of-shifting) ∙ named-by shifting addressed lowWrong (d .failed-names addressed lowWrong))
+
+-- ---- DEMAND 2 SHUTS OUT, by the idle time that the history asks of a wake-up, ..
+-- .. one that keeps 300 ms after a stop: 55 ms after the mark it still says 8
+pub patient-shut : DemandTwo patient → ⊥
+patient-shut d = false≢true (sym (computed .of-patient) ∙ is-fair-start patient stopping 587_880 d (computed .stopping-tried))
+
+-- .. one that goes by P3 min of KB1's set: where 75 ms are in force it starts after 55
+pub unaware-shut : DemandTwo unaware → ⊥
+unaware-shut d = false≢true (sym (computed .of-unaware) ∙ is-fair-start unaware stoppingLate 687_880 d (computed .stopping-late-tried))
+
+-- .. one that a drop while down leaves the shorter time: it starts before 300 ms are over
+pub unmoved-shut : DemandTwo unmoved → ⊥
+unmoved-shut d = false≢true (sym (computed .of-unmoved) ∙ is-fair-start unmoved dropping 700_000 d (computed .dropping-tried))
+
+-- .. one that goes back to 300 ms at a start answered with 8: it says 8 again after 55 ms
+pub strict-shut : DemandTwo strict → ⊥
+strict-shut d = false≢true (sym (computed .of-strict) ∙ is-fair-start strict hurrying 667_879 d (computed .hurrying-tried))
+
+-- .. and one that judges a restart by P3 min: it starts 88 ms after the last byte of a session
+pub hasty-shut : DemandTwo hasty → ⊥
+hasty-shut d = false≢true (sym (computed .of-hasty) ∙ is-fair-start hasty (fastEvents ▷ fastLast) 500_000 d (computed .restart-tried))
 
 -- ---- AND a builder with one constant frame: it can't read back as two different bytes
 pub constant-shut : (frame : List ℕ) → ((byte : ℕ) → ReadsBack 0xEF 0x8F Plain 0 0 (byte ∷ []) frame) → ⊥

@@ -11,4 +11,4 @@ fresh-spec =
     tie.close
     (tie.spec
     (λ c κs. search needs)
-    (λ c. rw (c .go-down .ensures)))
+    (λ c. rw (c .go-off .ensures)))

@@ -14,7 +14,7 @@ start-byte-spec =
     (λ c κs. search needs)
     (λ c κs. search needs)
     (λ c κs. search needs)
-    (λ c. rw (c .making .ensures, ← (c .before .before .before .judge .ensures), ne-eqb _ _ (c .before .before .if1 .taken), ← (c .before .go-down .ensures)))
+    (λ c. rw (c .making .ensures, ← (c .before .before .before .judge .ensures), ne-eqb _ _ (c .before .before .if1 .taken), c .before .go-off .ensures))
     (λ c κs. search needs)
     (λ c κs. search needs)
     (λ c κs. search needs)

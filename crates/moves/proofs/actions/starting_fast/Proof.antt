@@ -21,4 +21,4 @@ starting-fast-spec =
     (λ c. rw (c .stay .ensures, ← (c .before .before .before .before .before .before .is-idle .ensures), c .before .before .before .before .before .if1 .left, ← (c .before .before .before .before .is-good-low .ensures), c .before .before .before .if2 .taken, ← (c .before .before .fast .ensures), ← (c .before .begin-start .ensures)))
     (λ c κs. search needs)
     (λ c κs. search needs)
-    (λ c. rw (c .making2 .ensures, ← (c .before .before .before .before .before .is-idle .ensures), c .before .before .before .before .if1 .left, ← (c .before .before .before .is-good-low .ensures), c .before .before .if2 .left, ← (c .before .go-down2 .ensures))))
+    (λ c. rw (c .making2 .ensures, ← (c .before .before .before .before .before .is-idle .ensures), c .before .before .before .before .if1 .left, ← (c .before .before .before .is-good-low .ensures), c .before .before .if2 .left, c .before .go-off .ensures)))

@@ -15,6 +15,6 @@ after-window-spec =
     (λ c κs. search needs)
     (λ c κs. search needs)
     (λ c κs. search needs)
-    (λ c. rw (c .making .ensures, ← (c .before .before .before .before .before .is-starting .ensures), ← (c .before .before .before .before .since-origin .ensures), ← (c .before .before .before .is-past .ensures), c .before .before .if1 .taken, ← (c .before .go-down .ensures)))
+    (λ c. rw (c .making .ensures, ← (c .before .before .before .before .before .is-starting .ensures), ← (c .before .before .before .before .since-origin .ensures), ← (c .before .before .before .is-past .ensures), c .before .before .if1 .taken, c .before .go-off .ensures))
     (λ c κs. search needs)
     (λ c. rw (c .stay .ensures, ← (c .before .before .before .before .is-starting .ensures), ← (c .before .before .before .since-origin .ensures), ← (c .before .before .is-past .ensures), c .before .if1 .left)))

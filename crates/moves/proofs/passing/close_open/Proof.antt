@@ -18,6 +18,6 @@ close-open-spec =
     (λ c κs. search needs)
     (λ c κs. search needs)
     (λ c κs. search needs)
-    (λ c. rw (c .making2 .ensures, ← (c .before .before .before .before .before .is-open .ensures), c .before .before .before .before .if1 .left, ← (c .before .before .before .is-starting .ensures), c .before .before .if2 .taken, ← (c .before .go-down .ensures)))
+    (λ c. rw (c .making2 .ensures, ← (c .before .before .before .before .before .is-open .ensures), c .before .before .before .before .if1 .left, ← (c .before .before .before .is-starting .ensures), c .before .before .if2 .taken, c .before .go-off .ensures))
     (λ c κs. search needs)
     (λ c. rw (c .stay .ensures, ← (c .before .before .before .before .is-open .ensures), c .before .before .before .if1 .left, ← (c .before .before .is-starting .ensures), c .before .if2 .left)))
