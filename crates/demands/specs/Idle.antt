@@ -34,11 +34,13 @@ p3minIn m log = inForce (latestTalk m log) .p3min
 
 -- ---- WHAT A REPORT LEAVES of the idle time. "After a stop answered by the unit the idle time is P3 min as it was in force; after P3 max has run out it is 0." "a
 -- failed initialization, a drop (also while down) and a restart keep 300 ms". Any other report leaves it.
+abbrev pub idleDown : Micros → ℕ → Micros
+idleDown p3min reason = if eqb reason stopped then p3min else if eqb reason idleOver then micros 0 else idleAtPowerOn
+
 unfoldable pub idleAfter : Micros → Micros → Report → Micros
 idleAfter p3min idle r =
     if eqb (r .number) failedReport then idleAtPowerOn else
-    if eqb (r .number) downReport then
-    (if eqb (r .reason) stopped then p3min else if eqb (r .reason) idleOver then micros 0 else idleAtPowerOn) else idle
+    if eqb (r .number) downReport then idleDown p3min (r .reason) else idle
 
 unfoldable pub isDrop : Kind → Bool
 isDrop Address = false
