@@ -1,7 +1,7 @@
 -- AN EVENT, MOVE BY MOVE. What holds before an event, and goes on to hold from each of its moves to the next, holds after it: `I` says what holds at each
 -- moment, of the run so far and of the reports made so far; each rule leads from one moment to the next (`moves`), and so do hearing a byte (`hears`) and
--- an event that ends early, a tick (`ends`) or a drop (`leaves`). `Kept` and `Followed` are what this says of a link's phase alone, and of a phase beside
--- a fold over the reports. The walks `..-by` also say which events come to a moment (`Reached`), and what a start finds (`Here`).
+-- an event that ends early, a tick (`ends`) or a drop (`leaves`). `Kept` is what this says of a link's phase alone. The walks `..-by` also say which events come
+-- to a moment (`Reached`), and what a start finds (`Here`).
 -- Assumes nothing.
 use Prim.Native.Nat.{ℕ}
 use mathlib.Core.List.{List, [], _++_, append-assoc, append-nil}
