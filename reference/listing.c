@@ -328,16 +328,16 @@ static void report(struct link *link, enum report number, int reason, uint64_t b
 }
 
 #ifdef TALLY
-/* The turn that the idle time goes by, and what came since. */
+/* The report of a failed start or a link that went down, or the drop, that the idle time goes by, and what came since. */
 static struct {
     enum report number;
     uint64_t event;         /* how many events were taken up to it */
     uint64_t before;        /* the idle time before it */
     enum situation instead; /* if that was shorter */
     bool byte, refused;     /* since then, an outside byte, and the last start answered with report 8 */
-} turn;
+} latest;
 
-static void tally_turn(const struct link *link, enum report number, int reason)
+static void tally_latest(const struct link *link, enum report number, int reason)
 {
     enum situation instead = 0;
 
@@ -346,12 +346,12 @@ static void tally_turn(const struct link *link, enum report number, int reason)
     else if (reason == DROPPED && link->idle > 0)
         instead = STOP_DROPPED;
     else if (reason == DROPPED)
-        instead = turn.event == link->events ? OUT_IN_DROP : OUT_DROPPED;
-    turn.number = number;
-    turn.event = link->events;
-    turn.before = link->idle;
-    turn.instead = link->idle < LONG_IDLE ? instead : 0;
-    turn.byte = turn.refused = false;
+        instead = latest.event == link->events ? OUT_IN_DROP : OUT_DROPPED;
+    latest.number = number;
+    latest.event = link->events;
+    latest.before = link->idle;
+    latest.instead = link->idle < LONG_IDLE ? instead : 0;
+    latest.byte = latest.refused = false;
 }
 
 static enum situation edge(const struct link *link)
@@ -373,24 +373,24 @@ static void tally_start(const struct link *link, const struct event *event)
 {
     uint64_t gap = event->start - link->mark;
     bool started = gap >= link->idle;
-    bool now = turn.event == link->events;
+    bool now = latest.event == link->events;
 
     if (gap == link->idle || gap + 1 == link->idle)
         seen_idle[edge(link)][started]++;
     if (link->idle == LONG_IDLE) {
-        if (turn.instead && gap >= turn.before)
-            seen_idle[turn.instead][started]++;
-        if (now && turn.number == LINK_DOWN)
+        if (latest.instead && gap >= latest.before)
+            seen_idle[latest.instead][started]++;
+        if (now && latest.number == LINK_DOWN)
             seen_idle[RESTART][started]++;
     } else if (gap < LONG_IDLE) {
-        if (turn.refused)
+        if (latest.refused)
             seen_idle[KEPT][started]++;
-        if (turn.byte)
+        if (latest.byte)
             seen_idle[link->idle == 0 ? BYTE_NONE : BYTE_P3_MIN][started]++;
         if (now)
             seen_idle[event->kind == 'A' ? OUT_IN_ADDRESS : OUT_IN_WAKE_UP][started]++;
     }
-    turn.refused = !started;
+    latest.refused = !started;
 }
 #endif
 
@@ -398,7 +398,7 @@ static void tally_start(const struct link *link, const struct event *event)
 static void set_idle(struct link *link, enum report number, int reason)
 {
 #ifdef TALLY
-    tally_turn(link, number, reason);
+    tally_latest(link, number, reason);
 #endif
     if (number == LINK_DOWN && reason == STOPPED)
         link->idle = link->timing.p3_min;
@@ -724,7 +724,7 @@ static void take_byte(struct link *link, const struct event *event)
     case DOWN:
         report(link, OUTSIDE, 0, 1);
 #ifdef TALLY
-        turn.byte = true;
+        latest.byte = true;
 #endif
         break;
     case STARTING:

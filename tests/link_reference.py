@@ -563,8 +563,8 @@ def example():
 
 
 def scripts():
-    """Rare turns, one by one: a second address at the very end of the first one's window; a drop on a held message; 6 and 7 in one event; a late
-    answer; and idle times one after another."""
+    """Rare turns, one by one: a second address at the very end of the first one's window; a drop on a held message; 6 and 7 in one event; and a
+    late answer. Then idle times."""
     s = Sessions(0)
     s.send("A", "", 0x33, 300_000, 2_300_000)
     s.send("A", "", 0x33, 2_600_000, 2_600_000)
@@ -583,6 +583,11 @@ def scripts():
     v.whole("t", [0x3E], 60_000)
     v.whole("e", [0xC3, 0x03], 30_000)
     v.whole("t", [0x3E], 10_000)
+    return [s, t, u, v] + idle_scripts()
+
+
+def idle_scripts():
+    """Idle times one after another."""
     w = example()  # after a stop P3 min, which a report 8 and an outside byte keep; after a drop 300 ms; after P3 max 0; after a wrong low 300 ms
     w.whole("t", [0x82], 60_000)
     w.whole("e", [0xC2], 30_000)
@@ -610,7 +615,7 @@ def scripts():
     x.whole("e", [0xC2], 0)
     x.call("W", 5_499)
     x.call("W", 5_500)
-    return [s, t, u, v, w, x]
+    return [w, x]
 
 
 # reports that must come up, and some that must come together in one event

@@ -220,7 +220,7 @@ class Sweep(Sessions):
             self.call(how, self.link.windows[3] + 1)
 
     def between(self, what):
-        """An outside byte, a report 8, a drop; or a start that fails: run out, left to be closed, by its low, or by a byte's side, time or value."""
+        """b an outside byte, 8 a report 8, d a drop; or a start that fails: r run out, c left to be closed, w by its low, or by a byte's s side, e time or v value."""
         idle = self.link.idle()
         if what == "b":
             self.hear("t", 0x00, 1_000)

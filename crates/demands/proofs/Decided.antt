@@ -25,7 +25,7 @@ use Rattle.demands.proofs.Deciding.Sharing.{Both, turned, here, there, 
 use Rattle.demands.proofs.Deciding.Starts.{three}
 use Rattle.demands.proofs.Deciding.Messages.{one, two}
 use Rattle.demands.proofs.Deciding.Ends.{five, six, seven}
-use Rattle.demands.proofs.Deciding.Lows.{four, eight}
+use Rattle.demands.proofs.Deciding.IdleAsked.{four, eight}
 use Rattle.demands.proofs.DemandOne.{demand-one}
 use Rattle.demands.proofs.DemandTwo.{demand-two}
 use Rattle.demands.proofs.DemandThree.{demand-three}

@@ -6,4 +6,4 @@ pub mod Sharing
 pub mod Starts
 pub mod Messages
 pub mod Ends
-pub mod Lows
+pub mod IdleAsked

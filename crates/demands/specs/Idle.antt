@@ -1,4 +1,4 @@
--- THE IDLE TIME that an address or wake-up must keep, told by events and reports (document 01: "A or W needs 300 ms from the old mark to its start"; document 02,
+-- THE IDLE TIME that an address or wake-up needs, told by events and reports (document 01: "A or W needs 300 ms from the old mark to its start"; document 02,
 -- "One", has other times for the 300 ms). It goes by the latest report 4, report 7 or drop before the start is judged, those of its own event among them.
 -- A log here is one of events taken.
 -- Assumes nothing.
@@ -20,7 +20,7 @@ use Rattle.demands.specs.Histories.{Machine, reportsTo, folded}
 use Rattle.demands.specs.Accounts.{namedBy}
 use Rattle.demands.specs.Sessions.{Talk, opening, openedBy, afterReport, inForce}
 
--- ---- THE LATEST SESSION, from the latest report 3 on, also once it is over: its key bytes and its frames. (Of no key bytes before the first.)
+-- ---- THE LATEST SESSION, from the latest report 3 on, also once it is over: its key bytes and its frames. (Before the first, of the key bytes 0 and 0, which are not good.)
 unfoldable pub latestAfter : Log → Talk → Report → Talk
 latestAfter log t r = if eqb (r .number) connectedReport then openedBy (namedBy (heardOf log) r) else afterReport t log r
 

@@ -8,11 +8,11 @@ pub mod Ours
 pub mod OurLink
 pub mod Orders
 pub mod Starts
-pub mod Connecting
 pub mod Accounts
 pub mod Inputs
 pub mod Sessions
 pub mod Idle
+pub mod Connecting
 pub mod Messages
 pub mod Endings
 pub mod Failing

@@ -1,14 +1,14 @@
--- The wrong programs that document 01 wants shut out ("What a caller can rely on"), the accident that must not come again, and wrong links that a single field
--- of a demand is there for. That each breaks a demand is proved in proofs/WrongLinks/ShutOut.antt.
+-- The wrong programs that document 01 wants shut out ("What a caller can rely on"), the accident that must not come again, wrong links that a single field
+-- of a demand is there for, and our link with another idle time than document 02 says. That each breaks a demand is proved in proofs/WrongLinks/ShutOut.antt.
 -- Assumes nothing.
 use Prim.Native.Nat.{ℕ, _+_, _-_}
-use mathlib.Core.Bool.{Bool, true, false, not, _&&_}
+use mathlib.Core.Bool.{Bool, true, false, not, _&&_, _||_}
 use mathlib.Core.List.{List, [], _∷_, _++_}
 use lib.Dec.{eqb}
 use Rattle.base.specs.Choice.{if_then_else_}
 use Rattle.base.specs.Numbers.{taken, tooMany}
 use Rattle.base.specs.Sums.{countSum}
-use Rattle.base.specs.Reports.{failedReport, outsideReport, downReport, notIdleReport, noReason, stopped, restarted}
+use Rattle.base.specs.Reports.{failedReport, outsideReport, downReport, notIdleReport, noReason, stopped, idleOver, restarted}
 use Rattle.units.specs.declared.Micros.{Micros}
 use Rattle.timing.specs.Timing.{idleAtPowerOn, setOf, sameWindows}
 use Rattle.events.specs.Events.{isByte}
@@ -241,11 +241,11 @@ idledFor idle p = record {
 abbrev atPhase : Link → Phase → Link
 atPhase l p = record { clock = l .clock; mark = l .mark; taken = l .taken; heard = l .heard; named = l .named; phase = p }
 
-abbrev tells : ℕ → ℕ → List Report → Bool
-tells number reason [] = false
-tells number reason (r ∷ rs) = if eqb (r .number) number && eqb (r .reason) reason then true else tells number reason rs
+abbrev isTold : ℕ → ℕ → List Report → Bool
+isTold number reason [] = false
+isTold number reason (r ∷ rs) = (eqb (r .number) number && eqb (r .reason) reason) || isTold number reason rs
 
--- where an event and its reports on a link call for it, another one
+-- our link, but for its idle time after an event wherever `when` says so of the link before it, the event and its reports
 abbrev idlingElse : (Link → Event → List Report → Bool) → (Link → Micros) → Machine
 idlingElse when idle = machineOf (λ l c e.
     let s = stepOf l c e in
@@ -258,13 +258,21 @@ idlingElse when idle = machineOf (λ l c e.
 
 -- one that keeps 300 ms after a stop; ..
 abbrev pub patient : Machine
-patient = idlingElse (λ l e rs. tells downReport stopped rs) (λ l. idleAtPowerOn)
+patient = idlingElse (λ l e rs. isTold downReport stopped rs) (λ l. idleAtPowerOn)
 
 -- .. one that keeps P3 min of KB1's set then, whatever is in force; ..
 abbrev pub unaware : Machine
-unaware = idlingElse (λ l e rs. tells downReport stopped rs) (λ l. setOf (l .phase .start .pair) .p3min)
+unaware = idlingElse (λ l e rs. isTold downReport stopped rs) (λ l. setOf (l .phase .start .pair) .p3min)
 
--- .. one that a drop while down leaves the shorter time; ..
+-- .. one that keeps 300 ms after P3 max has run out; ..
+abbrev pub waiting : Machine
+waiting = idlingElse (λ l e rs. isTold downReport idleOver rs) (λ l. idleAtPowerOn)
+
+-- .. one that a start that fails leaves the shorter time; ..
+abbrev pub forgiving : Machine
+forgiving = idlingElse (λ l e rs. isAmong failedReport rs) (λ l. l .phase .idle)
+
+-- .. one that a drop while down leaves it; ..
 abbrev pub unmoved : Machine
 unmoved = idlingElse (λ l e rs. isDrop (e .kind) && isDown (l .phase .state)) (λ l. l .phase .idle)
 
@@ -272,11 +280,14 @@ unmoved = idlingElse (λ l e rs. isDrop (e .kind) && isDown (l .phase .state)) (
 abbrev pub strict : Machine
 strict = idlingElse (λ l e rs. isAmong notIdleReport rs) (λ l. idleAtPowerOn)
 
--- .. and one that judges a restart by P3 min
+-- .. and one that judges a restart by P3 min: it goes down with reason 4, and then does what a link does that is down with that idle time
+abbrev both : Reports → Reports → Reports
+both first more = if eqb (more .n) 0 then appended noReports (first .a) else appended (appended noReports (first .a)) (more .a)
+
 abbrev pub hasty : Machine
 hasty = machineOf (λ l c e.
     let s = stepOf l c e in
     let a = s .answer in
-    let later = stepOf (atPhase l (down (l .phase .windows .p3min))) c e .answer .link in
-    if isQuiet (l .phase .state) && tells downReport restarted (listed (a .reports))
-    then record { answer = record { link = later; reports = appended noReports (a .reports .a); no = a .no }; counts = s .counts } else s)
+    let later = stepOf (atPhase l (down (l .phase .windows .p3min))) c e .answer in
+    if eqb (a .reports .a .number) downReport && eqb (a .reports .a .reason) restarted
+    then record { answer = record { link = later .link; reports = both (a .reports) (later .reports); no = a .no }; counts = s .counts } else s)

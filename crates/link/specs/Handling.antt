@@ -46,6 +46,7 @@ byteHeard r e mark =
     let r1 = moved (hearing r) (afterByte (r .phase) (e .side) (e .value) mark (e .start)) in
     moved r1 (afterStop (r1 .phase))
 
+-- what it does, by its kind; what is open is closed first, so that a start is judged by the idle time that closing has left
 abbrev pub actedBy : Kind → Run → Event → Micros → Run
 actedBy Address r e mark =
     let r1 = shut r restarted in

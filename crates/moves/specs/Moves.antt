@@ -1,5 +1,5 @@
 -- What time, a closing event, a start and a byte do to a link: each rule is a move, a report (none if its number is 0) and the phase after it
--- (document 01, "Events and what the link does").
+-- (document 01, "Events and what the link does"; document 02, "One", on the idle time).
 -- Assumes nothing.
 use Prim.Native.Nat.{ℕ}
 use mathlib.Core.Bool.{Bool, not, _&&_}

@@ -55,8 +55,8 @@ fn is_good_low(fall: Micros, rise: Micros) -> bool
 pub fn starting_fast(idle: Micros, mark: Micros, fall: Micros, rise: Micros) -> Move
     ensures { λ r. ⌜ r ≡ startingFast idle mark fall rise ⌝ }
 {
-    let long = is_idle(idle, mark, fall);
-    if !long {
+    let idled = is_idle(idle, mark, fall);
+    if !idled {
         return making(base::report::NOT_IDLE, base::reason::NONE, go_down(idle));
     }
     if is_good_low(fall, rise) {

@@ -147,7 +147,8 @@ pub fn close_open(p: Phase) -> Move
     stay(p)
 }
 
-// A connected link with nothing open goes down, and a drop finds one that is down.
+// A connected link with nothing open goes down; a drop of one that is down only sets its idle time
+// back.
 pub fn leave(p: Phase, reason: u8) -> Move
     ensures { λ r. ⌜ r ≡ leaving p reason ⌝ }
 {

@@ -1,5 +1,5 @@
 -- What a link is at: its state by name, beside what each state uses. What a state of a connected link does not use is carried along.
--- (document 01, "Events and what the link does")
+-- (document 01, "Events and what the link does"; document 02, "One", on the idle time)
 -- Assumes nothing.
 use Prim.Native.Nat.{ℕ}
 use mathlib.Core.Bool.{Bool, true, false}
@@ -105,7 +105,7 @@ unconnected state idle fall start = record {
   start = start;
 }
 
--- "Down, as a fresh link is", with the idle time that the next address or wake-up must keep (document 02, "One")
+-- "Down, as a fresh link is", with the idle time that the next address or wake-up needs
 unfoldable pub down : Micros → Phase
 down idle = unconnected Down idle (micros 0) noStart
 

@@ -53,13 +53,14 @@ extendedSet = record {
   p4min = micros 5_000;
 }
 
--- Before an address or wake-up the line is idle, from the mark on. How long goes by how the link went down (phases/specs/Phases.antt); at power-on it is 300 ms.
-abbrev pub idleAtPowerOn : Micros
-idleAtPowerOn = micros 300_000
-
 -- the set that key bytes name: KB1's
 unfoldable pub setOf : Pair → Windows
 setOf pair = if isExtended (pair .kb1) then extendedSet else normalSet
+
+-- How long the line is idle, from the mark on, before the first address or wake-up. (After what else it is asked: `off`, phases/specs/Phases.antt. Other times:
+-- moves/specs/Moves.antt.)
+abbrev pub idleAtPowerOn : Micros
+idleAtPowerOn = micros 300_000
 
 -- "Minima count 0.5 ms."
 unfoldable pub minOf : ℕ → Micros

@@ -44,7 +44,8 @@ pub struct Encoded {
     pub codes: Codes,
 }
 
-// How long the line is idle before the first address or wake-up, in microseconds.
+// How long the line is idle before the first address or wake-up, in microseconds; and after a failed
+// one, a drop or a restart.
 pub const IDLE_AT_POWER_ON: u64 = 300_000;
 
 // The greatest number of microseconds, which stands for no limit.

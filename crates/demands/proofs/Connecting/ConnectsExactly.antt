@@ -22,7 +22,7 @@ use Rattle.link.specs.Stepping.{refusedBy, takenBy}
 use Rattle.link.specs.declared.Link.{Link}
 use Rattle.link.specs.declared.Answer.{Answer}
 use Rattle.starts.specs.declared.Start.{Start}
-use Rattle.demands.specs.Logs.{Log, none, _▷_, markOf, numberAfter, takenOf}
+use Rattle.demands.specs.Logs.{Log, none, _▷_, numberAfter, takenOf}
 use Rattle.demands.specs.Histories.{Host, after, reportsTo, isAmong, Says}
 use Rattle.demands.specs.Starts.{SlowStart, FastStart}
 use Rattle.demands.specs.Connecting.{ConnectsBy}

@@ -23,6 +23,7 @@ use Rattle.demands.specs.Connecting.{Since, here, tick, byte, Connects}
 use Rattle.demands.specs.Endings.{Starting, starts, goes-on, AnswersStop}
 use Rattle.demands.specs.Messages.{OpensMessage, Speaks, begins, refused, waits, grows, EndsInFrame}
 use Rattle.demands.proofs.Histories.TakenOnly.{PassesOver, next-same}
+use Rattle.demands.proofs.IdleTimes.AskedTime.{timed}
 
 unfoldable pub Agree : Machine → Machine → Log → Type 0
 Agree s t none = Unit {0}
@@ -81,16 +82,7 @@ module _ (s t : Machine) where
   since-agree (byte k z) g = since-agree z (g .0)
 
   abbrev pub connects-move : (log : Log) (e : Event) → Agree s t log → Connects s log e → Connects t log e
-  connects-move log e a c = record {
-    start = c .start;
-    before = c .before;
-    bytes = c .bytes;
-    pair = c .pair;
-    since = c .since;
-    idle = subst (λ (k : ℕ). k ≤ c .start .start .0) (until-same (c .before) (c .start) (since-agree (c .since) a)) (c .idle);
-    last = c .last;
-    good = c .good;
-  }
+  connects-move log e a c = timed log e c (until-same (c .before) (c .start) (since-agree (c .since) a))
 
   -- ---- refused events passed over
   module _ (passes : PassesOver s) (passes′ : PassesOver t) where

@@ -31,7 +31,7 @@ module _ (B : Both) where
       let q = B .E .two .connects-names (B .es) (B .e) (before B) (x .0) c .reports in
       record { report = r; made = subst (Among r) (p ∙ sym q) i; like = record { number = refl; reason = refl; bytes = refl; time = refl } }
 
-  -- ---- 4, by its reason, but for a wrong low, which asks for the idle time (Lows.antt)
+  -- ---- 4, by its reason, but for a wrong low, which asks for the idle time (IdleAsked.antt)
   abbrev pub Fails4 : ℕ → Type 0
   Fails4 k = Tells failedReport k (here B) → Tells failedReport k (there B)
 

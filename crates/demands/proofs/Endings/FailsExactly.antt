@@ -30,7 +30,7 @@ use Rattle.phases.specs.declared.Phase.{Phase}
 use Rattle.moves.specs.Moves.{sinceOrigin}
 use Rattle.link.specs.Telling.{handledTells}
 use Rattle.link.specs.declared.Link.{Link}
-use Rattle.demands.specs.Logs.{Log, none, _▷_, markOf, numberAfter, takenOf, eventsOf, InBytes}
+use Rattle.demands.specs.Logs.{Log, none, _▷_, numberAfter, takenOf, eventsOf, InBytes}
 use Rattle.demands.specs.Refusals.{Not}
 use Rattle.demands.specs.Histories.{after, reportsTo, isAmong, Says, Tells}
 use Rattle.demands.specs.Connecting.{Since, here, tick, byte}

@@ -78,30 +78,25 @@ own-asked es {a = a} {before = before} i s k =
     let t = asked-link before a (x .bytes) (x .number) k ∙ ap (λ (log : Log). idleAsked ours log a) (x .whole) in
     ap (λ (m : Micros). markOf before .0 + m .0) t
 
+-- what completes an initialization by one time from which a start may come does so by another that is the same for its start
+abbrev pub timed : {t u : Log → Event → ℕ} (log : Log) (e : Event) (c : ConnectsBy t log e) → t (c .before) (c .start) ≡ u (c .before) (c .start) → ConnectsBy u log e
+timed log e c q = record {
+  start = c .start;
+  before = c .before;
+  bytes = c .bytes;
+  pair = c .pair;
+  since = c .since;
+  idle = subst (λ (k : ℕ). k ≤ c .start .start .0) q (c .idle);
+  last = c .last;
+  good = c .good;
+}
+
 module _ (es : Log) (e : Event) (i : InBytes es) where
   abbrev asked-of : ConnectsBy ownUntil (takenOf es) e → Connects ours (takenOf es) e
-  asked-of c = record {
-    start = c .start;
-    before = c .before;
-    bytes = c .bytes;
-    pair = c .pair;
-    since = c .since;
-    idle = subst (λ (t : ℕ). t ≤ c .start .start .0) (own-asked es i (c .since) (starter (c .good))) (c .idle);
-    last = c .last;
-    good = c .good;
-  }
+  asked-of c = timed (takenOf es) e c (own-asked es i (c .since) (starter (c .good)))
 
   abbrev own-of : Connects ours (takenOf es) e → ConnectsBy ownUntil (takenOf es) e
-  own-of c = record {
-    start = c .start;
-    before = c .before;
-    bytes = c .bytes;
-    pair = c .pair;
-    since = c .since;
-    idle = subst (λ (t : ℕ). t ≤ c .start .start .0) (sym (own-asked es i (c .since) (starter (c .good)))) (c .idle);
-    last = c .last;
-    good = c .good;
-  }
+  own-of c = timed (takenOf es) e c (sym (own-asked es i (c .since) (starter (c .good))))
 
   -- THE THEOREMS
   pub connects-exactly : Says connectedReport (reportsTo ours es e) ↔ ((numberAfter (takenOf es) e ≡ taken) × Connects ours (takenOf es) e)

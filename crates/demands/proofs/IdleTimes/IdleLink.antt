@@ -5,7 +5,7 @@ use Prim.Native.Nat.{ℕ}
 use mathlib.Core.Bool.{Bool, true, false, _&&_}
 use mathlib.Core.List.{List, [], _∷_, _++_}
 use mathlib.Core.Logic.{_⊎_, inl, inr}
-use mathlib.Core.Path.{_≡_, refl, sym, ap, _∙_, subst}
+use mathlib.Core.Path.{_≡_, refl, sym, ap, _∙_}
 use borrow.Author.Tests.{eqb-true, eqb-false}
 use lib.Dec.{eqb}
 use Rattle.base.specs.Choice.{if_then_else_}
@@ -16,7 +16,7 @@ use Rattle.units.specs.declared.Micros.{Micros}
 use Rattle.timing.specs.Timing.{idleAtPowerOn}
 use Rattle.timing.specs.declared.Windows.{Windows}
 use Rattle.events.specs.declared.Kind.{Kind}
-use Rattle.events.specs.declared.Kind.the-variants.{Address, WakeUp, Byte, Tick, Drop, Other}
+use Rattle.events.specs.declared.Kind.the-variants.{Byte, Tick, Drop, Other}
 use Rattle.events.specs.declared.Event.{Event}
 use Rattle.phases.specs.Phases.{down}
 use Rattle.moves.specs.declared.Move.{Move}
@@ -40,7 +40,7 @@ use Rattle.demands.proofs.Moves.Entering.{judging}
 use Rattle.demands.proofs.Moves.Causes.{no-closer, drop-starts}
 use Rattle.demands.proofs.Connecting.ConnectsExactly.{link-taken, link-refused, log-taken, log-refused, reports-taken}
 use Rattle.demands.proofs.IdleTimes.LatestTalk.{windows-link}
-use Rattle.demands.proofs.IdleTimes.IdleRules.{IdleAt, Force, At, leftBy, early-rule, start-rule, byte-rule, stop-rule}
+use Rattle.demands.proofs.IdleTimes.IdleRules.{IdleAt, Force, At, early-rule, undropped, idle-rule}
 
 -- ---- reports folded as they come
 folded-on : (each : Micros → Report → Micros) (s : Micros) (xs ys : List Report) → folded each s (xs ++ ys) ≡ folded each (folded each s xs) ys
@@ -75,15 +75,6 @@ module _ (p3 : Micros) (each : Micros → Report → Micros) (same : (s : Micros
       let x = early-rule mark e p3 k a r m (folded each s xs) u i in
       rw (moved-phase r m, folded-move r m s xs, same (folded each s xs) (reportOf r (m .number) (m .reason)) (x .1)) (x .0)
 
-kind-drops : (k : Kind) → (k ≡ Drop → ⊥) → isDrop k ≡ false
-unfolding isDrop
-kind-drops Address n = refl
-kind-drops WakeUp n = refl
-kind-drops Byte n = refl
-kind-drops Tick n = refl
-kind-drops Drop n = absurd (n refl)
-kind-drops Other n = refl
-
 drop-is : {k : Kind} → k ≡ Drop → isDrop k ≡ true
 unfolding isDrop
 drop-is k = ap isDrop k
@@ -94,54 +85,26 @@ module _ (l : Link) (e : Event) (p3 s : Micros) (idle : IdleAt s (l .phase)) (fo
   Found k r = Here (passed (begun l e) (l .mark) (e .start)) k (r .phase)
 
   -- the idle time after it
-  module _ where
-    abbrev sum : List Report → Micros
-    sum xs = folded (idleAfter p3) s xs
+  abbrev sum : List Report → Micros
+  sum xs = folded (idleAfter p3) s xs
 
-    abbrev I : Moment → Run → List Report → Type 0
-    I at-silence r xs = At (l .mark) e p3 at-silence (r .phase) (sum xs)
-    I at-p2 r xs = At (l .mark) e p3 at-p2 (r .phase) (sum xs)
-    I at-p3 r xs = At (l .mark) e p3 at-p3 (r .phase) (sum xs)
-    I at-window r xs = At (l .mark) e p3 at-window (r .phase) (sum xs)
-    I at-closing r xs = At (l .mark) e p3 at-closing (r .phase) (sum xs)
-    I at-leaving r xs = At (l .mark) e p3 at-leaving (r .phase) (sum xs)
-    I at-start r xs = At (l .mark) e p3 at-start (r .phase) (sum xs)
-    I at-byte r xs = At (l .mark) e p3 at-byte (r .phase) (sum xs)
-    I at-stop r xs = At (l .mark) e p3 at-stop (r .phase) (sum xs)
-    I at-end r xs = IdleAt (if isDrop (e .kind) then idleAtPowerOn else sum xs) (r .phase)
+  abbrev I : Moment → Run → List Report → Type 0
+  I k r xs = At (l .mark) e p3 k (r .phase) (sum xs)
 
-    early : (k : Moment) → BeforeStart k → (r : Run) (xs : List Report) (m : Move) → Rule (l .mark) e (r .phase) k m
-        → At (l .mark) e p3 k (r .phase) (sum xs) → At (l .mark) e p3 (next k) (moved r m .phase) (sum (xs ++ tells r m))
-    early k a r xs m u i = early-moves p3 (idleAfter p3) (λ _ _ _. refl) (l .mark) e s k a r xs m u i
+  moves : (k : Moment) → Reached e k → (r : Run) → Found k r → (xs : List Report) (m : Move) → Rule (l .mark) e (r .phase) k m → I k r xs
+      → I (next k) (moved r m) (xs ++ tells r m)
+  moves k w r h xs m u i =
+      rw (moved-phase r m, folded-move p3 (idleAfter p3) (λ _ _ _. refl) r m s xs) (idle-rule (l .mark) e p3 k w r m (sum xs) u i)
 
-    later : (r : Run) (xs : List Report) (m : Move) → sum (xs ++ tells r m) ≡ leftBy (l .mark) e p3 r m (sum xs)
-    later r xs m = folded-move p3 (idleAfter p3) (λ _ _ _. refl) r m s xs
+  ends : (e .kind ≡ Tick) ⊎ (e .kind ≡ Other) → (r : Run) (xs : List Report) → I at-closing r xs → I at-end r xs
+  ends (inl k) r xs i = undropped (l .mark) e p3 (r .phase) (sum xs) (λ d. no-closer e Tick refl k (inr d)) (i .0)
+  ends (inr k) r xs i = undropped (l .mark) e p3 (r .phase) (sum xs) (λ d. no-closer e Other refl k (inr d)) (i .0)
 
-    moves : (k : Moment) → Reached e k → (r : Run) → Found k r → (xs : List Report) (m : Move) → Rule (l .mark) e (r .phase) k m → I k r xs
-        → I (next k) (moved r m) (xs ++ tells r m)
-    unfolding next
-    moves at-silence w r h xs m u i = early at-silence tt r xs m u i
-    moves at-p2 w r h xs m u i = early at-p2 tt r xs m u i
-    moves at-p3 w r h xs m u i = early at-p3 tt r xs m u i
-    moves at-window w r h xs m u i = early at-window tt r xs m u i
-    moves at-closing w r h xs m u i = early at-closing tt r xs m u i
-    moves at-leaving w r h xs m u i = early at-leaving tt r xs m u i
-    moves at-start w r h xs m u i =
-        rw (kind-drops (e .kind) (λ k. drop-starts e k w), moved-phase r m, later r xs m) (start-rule (l .mark) e p3 r m (sum xs) u i)
-    moves at-byte w r h xs m u i = rw (moved-phase r m, later r xs m) (byte-rule (l .mark) e p3 r m (sum xs) u i)
-    moves at-stop w r h xs m u i =
-        rw (kind-drops (e .kind) (λ k. no-closer e Byte refl w (inr k)), moved-phase r m, later r xs m) (stop-rule (l .mark) e p3 r m (sum xs) u i)
-    moves at-end w r h xs m (rests u) i = absurd u
-
-    ends : (e .kind ≡ Tick) ⊎ (e .kind ≡ Other) → (r : Run) (xs : List Report) → I at-closing r xs → I at-end r xs
-    ends (inl k) r xs i = rw (kind-drops (e .kind) (λ d. no-closer e Tick refl k (inr d))) (i .0)
-    ends (inr k) r xs i = rw (kind-drops (e .kind) (λ d. no-closer e Other refl k (inr d))) (i .0)
-
-    event-idle : IdleAt (if isDrop (e .kind) then idleAtPowerOn else folded (idleAfter p3) s (listed (handled l e .reports))) (handled l e .phase)
-    unfolding handled handledTells begun folded
-    event-idle =
-        rw (three-enough l e)
-        (event-walk-by (l .mark) e (begun l e) I moves (λ _ r xs i. i) (λ k r xs i. rw (drop-is k) (i .1 k)) ends (idle, force))
+  event-idle : IdleAt (if isDrop (e .kind) then idleAtPowerOn else folded (idleAfter p3) s (listed (handled l e .reports))) (handled l e .phase)
+  unfolding handled handledTells begun folded
+  event-idle =
+      rw (three-enough l e)
+      (event-walk-by (l .mark) e (begun l e) I moves (λ _ r xs i. i) (λ k r xs i. rw (drop-is k) (i .1 k)) ends (idle, force))
 
   -- the idle time that a start is judged by
   module _ (starter : Starter e) where

@@ -1,23 +1,24 @@
 -- THE IDLE TIME, RULE BY RULE, on any link that has P3 min p3 in force. While a link is down it has the idle time that its reports so far have left (`IdleAt`): so it is
--- at each moment of an event up to a start (`early-rule`), at a start and after it (`start-rule`), and as a byte is heard and a stop is looked for
--- (`byte-rule`, `stop-rule`). A stop is answered by a frame that changes no window, so that P3 min is then still the one from before the event.
+-- at each moment of an event (`idle-rule`); up to a start no report is one of a wrong low (`early-rule`). A stop is answered by a frame that changes no window, so
+-- that P3 min is then still the one from before the event.
 -- Assumes nothing.
 use Prim.Native.Nat.{ℕ}
 use mathlib.Core.Bool.{Bool, true, false, _&&_, false≢true}
-use mathlib.Core.Logic.{_⊎_, inl, inr}
-use mathlib.Core.Path.{_≡_, refl, sym, ap, _∙_, subst}
+use mathlib.Core.Logic.{inr}
+use mathlib.Core.Path.{_≡_, refl, sym, ap, _∙_}
 use lib.Dec.{eqb}
 use Rattle.base.specs.Choice.{if_then_else_}
-use Rattle.base.specs.Reports.{failedReport, wrongLow, dropped}
+use Rattle.base.specs.Reports.{failedReport, downReport, wrongLow, dropped}
 use Rattle.base.proofs.Tests.{by-test}
 use Rattle.units.specs.declared.Micros.{Micros}
 use Rattle.timing.specs.Timing.{idleAtPowerOn}
 use Rattle.timing.specs.declared.Windows.{Windows}
 use Rattle.keys.specs.declared.Pair.{Pair}
 use Rattle.events.specs.Events.{isTester}
-use Rattle.events.specs.declared.Kind.the-variants.{Address, WakeUp, Drop}
+use Rattle.events.specs.declared.Kind.{Kind}
+use Rattle.events.specs.declared.Kind.the-variants.{Address, WakeUp, Byte, Tick, Drop, Other}
 use Rattle.events.specs.declared.Event.{Event}
-use Rattle.talk.specs.Talk.{isEffective, windowsFor, windowsAfter, spent, requestAfter, requestOf, isStopped}
+use Rattle.talk.specs.Talk.{isEffective, windowsFor, windowsAfter, spent, requestAfter, isStopped}
 use Rattle.talk.specs.declared.Request.{Request}
 use Rattle.talk.specs.declared.Request.the-variants.{Ordinary, Stop, OwnTiming, NewTiming, Stopped}
 use Rattle.talk.specs.declared.Message.{Message}
@@ -26,22 +27,30 @@ use Rattle.phases.specs.Phases.{asked, answered, framed}
 use Rattle.phases.specs.declared.State.{State}
 use Rattle.phases.specs.declared.State.the-variants.{Down, Starting, Quiet, Held, Damage}
 use Rattle.phases.specs.declared.Phase.{Phase}
-use Rattle.phases.proofs.StateTests.{down-is, open-connected, quiet-connected}
+use Rattle.phases.proofs.StateTests.{open-connected}
 use Rattle.moves.specs.declared.Move.{Move}
 use Rattle.moves.proofs.Rules.{Moment, at-silence, at-p2, at-p3, at-window, at-closing, at-leaving, at-start, at-byte, at-stop, at-end, next}
 use Rattle.moves.proofs.Rules.{Closes, by-drop, by-address, by-wake-up, reasonOf, Rule, rests, breaks-off, waited, idled, expires, cuts-off, aborts, leaves, drops}
 use Rattle.moves.proofs.Rules.{starts-slow, starts-fast, hurries, low, strays, misses, connects, goes-on, opens, errs, breaks, frames, grows, stops}
 use Rattle.reports.specs.Reporting.{reportOf}
-use Rattle.reports.specs.declared.Report.{Report}
 use Rattle.reports.specs.declared.Run.{Run}
-use Rattle.link.proofs.Walk.{BeforeStart}
+use Rattle.link.proofs.Walk.{Reached, BeforeStart}
 use Rattle.demands.specs.Endings.{Starter}
-use Rattle.demands.specs.Idle.{idleAfter}
-use Rattle.demands.proofs.Moves.Causes.{drop-starts}
+use Rattle.demands.specs.Idle.{idleAfter, isDrop}
+use Rattle.demands.proofs.Moves.Causes.{no-closer, drop-starts}
 
 -- while it is down, a link has this idle time
 abbrev pub IdleAt : Micros → Phase → Type 0
 IdleAt s p = isDown (p .state) ≡ true → p .idle ≡ s
+
+kind-drops : (k : Kind) → (k ≡ Drop → ⊥) → isDrop k ≡ false
+unfolding isDrop
+kind-drops Address n = refl
+kind-drops WakeUp n = refl
+kind-drops Byte n = refl
+kind-drops Tick n = refl
+kind-drops Drop n = absurd (n refl)
+kind-drops Other n = refl
 
 -- a frame that leaves the link stopped leaves its windows
 stop-keeps : (q : Request) (m : Message) (pair : Pair) (seven : ℕ) (w : Windows) → isStopped (requestAfter q m) ≡ true → windowsAfter q m pair seven w ≡ w
@@ -72,7 +81,7 @@ module _ (mark : Micros) (e : Event) (p3 : Micros) where
   At at-start p s = (Starter e → (isDown (p .state) ≡ true) × (p .idle ≡ s)) × (e .kind ≡ Drop → IdleAt idleAtPowerOn p)
   At at-byte p s = IdleAt s p × Force p
   At at-stop p s = IdleAt s p × (isStopped (p .request) ≡ true → p .windows .p3min ≡ p3)
-  At at-end p s = IdleAt s p
+  At at-end p s = IdleAt (if isDrop (e .kind) then idleAtPowerOn else s) p
 
   -- what a move's report leaves
   abbrev pub leftBy : Run → Move → Micros → Micros
@@ -128,7 +137,7 @@ module _ (mark : Micros) (e : Event) (p3 : Micros) where
   drop-moves true u k d = false≢true (sym u ∙ ap (λ x. eqb (reasonOf x) dropped) k)
   drop-moves false u k d = false≢true d
 
-  closes-left : (r : Run) (s : Micros) {reason : ℕ} → Closes e reason → idleAtPowerOn ≡ idleAfter p3 s (reportOf r 7 reason)
+  closes-left : (r : Run) (s : Micros) {reason : ℕ} → Closes e reason → idleAtPowerOn ≡ idleAfter p3 s (reportOf r downReport reason)
   unfolding idleAfter reportOf
   closes-left r s (by-drop k) = refl
   closes-left r s (by-address k) = refl
@@ -154,9 +163,12 @@ module _ (mark : Micros) (e : Event) (p3 : Micros) where
   early-rule at-stop a = absurd a
   early-rule at-end a = absurd a
 
-  -- ---- a start: what it is judged by, and what it leaves
-  pub start-rule : Keeps at-start
-  unfolding next idleAfter reportOf starting down isDown
+  -- ---- a start
+  abbrev KeepsLast : Moment → Type 0
+  KeepsLast k = (r : Run) (m : Move) (s : Micros) → Rule mark e (r .phase) k m → At k (r .phase) s → IdleAt (leftBy r m s) (m .phase)
+
+  start-rule : KeepsLast at-start
+  unfolding idleAfter reportOf starting down isDown
   start-rule r m s (rests u) i = absurd u
   start-rule r m s (starts-slow k x) i = λ d. absurd (false≢true d)
   start-rule r m s (starts-fast k x g) i = λ d. absurd (false≢true d)
@@ -174,7 +186,7 @@ module _ (mark : Micros) (e : Event) (p3 : Micros) where
   unfolding framed asked answered timed talking isDown
   framed-up p = by-test (λ (q : Phase). isDown (q .state) ≡ false) (isTester (p .message .side)) {x = asked p} {y = answered p} (λ _. refl) (λ _. refl)
 
-  pub byte-rule : Keeps at-byte
+  byte-rule : Keeps at-byte
   unfolding next idleAfter reportOf down starting connected holding damaged talking isDown isConnected isStopped
   byte-rule r m s (rests d) i = (i .0, λ _. i .1 (ap isConnected d))
   byte-rule r m s (strays d) i = (λ _. i .0 (ap isDown d), λ x. absurd (false≢true x))
@@ -187,7 +199,24 @@ module _ (mark : Micros) (e : Event) (p3 : Micros) where
   byte-rule r m s (grows h x z) i = (λ d. absurd (false≢true d), λ _. i .1 (ap isConnected h))
   byte-rule r m s (frames h x z) i = (λ d. absurd (false≢true (sym (framed-up (r .phase)) ∙ d)), framed-stops (r .phase) (i .1) (ap isConnected h))
 
-  pub stop-rule : Keeps at-stop
-  unfolding next idleAfter reportOf down
+  stop-rule : KeepsLast at-stop
+  unfolding idleAfter reportOf down
   stop-rule r m s (rests u) i = i .0
   stop-rule r m s (stops q x) i = λ _. i .1 x
+
+  -- ---- EACH RULE, at its moment
+  pub undropped : (p : Phase) (s : Micros) → (e .kind ≡ Drop → ⊥) → IdleAt s p → At at-end p s
+  undropped p s n i = rw (kind-drops (e .kind) n) i
+
+  pub idle-rule : (k : Moment) → Reached e k → Keeps k
+  unfolding next
+  idle-rule at-silence w r m s u i = silence-rule r m s u i .0
+  idle-rule at-p2 w r m s u i = p2-rule r m s u i .0
+  idle-rule at-p3 w r m s u i = p3-rule r m s u i .0
+  idle-rule at-window w r m s u i = window-rule r m s u i .0
+  idle-rule at-closing w r m s u i = closing-rule r m s u i .0
+  idle-rule at-leaving w r m s u i = leaving-rule r m s u i .0
+  idle-rule at-start w r m s u i = undropped (m .phase) (leftBy r m s) (λ d. drop-starts e d w) (start-rule r m s u i)
+  idle-rule at-byte w r m s u i = byte-rule r m s u i
+  idle-rule at-stop w r m s u i = undropped (m .phase) (leftBy r m s) (λ d. no-closer e Byte refl w (inr d)) (stop-rule r m s u i)
+  idle-rule at-end w r m s (rests u) i = absurd u

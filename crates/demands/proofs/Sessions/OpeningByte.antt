@@ -25,7 +25,7 @@ use Rattle.events.specs.declared.Event.{Event}
 use Rattle.talk.specs.Talk.{isFirst}
 use Rattle.talk.specs.declared.Reply.{Reply}
 use Rattle.talk.specs.declared.Reply.the-variants.{Never}
-use Rattle.phases.specs.Phases.{isQuiet, isOpen, down, talking, settled}
+use Rattle.phases.specs.Phases.{isQuiet, isOpen, talking, settled}
 use Rattle.phases.specs.declared.Phase.{Phase}
 use Rattle.phases.proofs.StateTests.{open-or, quiet-shut, down-is}
 use Rattle.moves.specs.Moves.{isSilent}

@@ -49,7 +49,7 @@ use Rattle.demands.specs.Accounts.{namedBy, bytesNamed, InTurn, reportsI
 use Rattle.demands.specs.Orders.{ruleOf, InOrder, NamesFailed}
 use Rattle.demands.proofs.Connecting.Example.{byteFrom, address, wakeAt, fastEvents, fastLast, slowBefore, slowAddress, allBytes, in-bytes}
 use Rattle.demands.specs.Wrong.{unchanged, idling, inventing, behind, twice, forgetting, possessive, disordered, repeating, moving, shifting}
-use Rattle.demands.specs.Wrong.{outside, patient, unaware, unmoved, strict, hasty}
+use Rattle.demands.specs.Wrong.{outside, patient, unaware, waiting, forgiving, unmoved, strict, hasty}
 use Rattle.demands.specs.OurLink.{ourLink}
 use Rattle.demands.specs.DemandTwo.{DemandTwo}
 
@@ -106,7 +106,7 @@ unheard = byteFrom Unit 0x00 2_400_000
 abbrev pub lowWrong : Event
 lowWrong = record { start = micros 2_660_960; end = micros 2_700_000; kind = WakeUp; side = Nobody; value = 0 }
 
--- document 01's initialization, and a stop that is answered: "STOP"; the same after 83 03 has set P3 min to 75 ms
+-- document 01's initialization, and a stop that is answered; the same after 83 03 has set P3 min to 75 ms
 abbrev pub stopAt : ℕ → Log → Log
 stopAt t log = bytesFrom Unit (t + 30_000) (0x01 ∷ 0xC2 ∷ 0xC3 ∷ []) (bytesFrom Tester t (0x01 ∷ 0x82 ∷ 0x83 ∷ []) log)
 
@@ -122,7 +122,10 @@ stoppingLate =
 abbrev pub runningOut : Log
 runningOut = fastEvents ▷ fastLast ▷ record { start = micros 5_411_521; end = micros 5_411_521; kind = Tick; side = Nobody; value = 0 } ▷ byteFrom Unit 0x00 5_420_000
 
--- a drop while down; a wake-up too soon
+-- after a stop: a wake-up that is low too short; a drop; a wake-up too soon
+abbrev pub failing : Log
+failing = stopping ▷ record { start = micros 587_880; end = micros 611_879; kind = WakeUp; side = Nobody; value = 0 }
+
 abbrev pub dropping : Log
 dropping = stopping ▷ record { start = micros 600_000; end = micros 600_000; kind = Drop; side = Nobody; value = 0 }
 
@@ -228,23 +231,30 @@ pub record Computed : Type 0 where
   pub outside-silent : reportsTo outside none (wakeAt 300_000) ≡ []
   pub stopping-tried : isTried stopping 587_880 ≡ true
   pub stopping-late-tried : isTried stoppingLate 687_880 ≡ true
+  pub running-out-tried : isTried runningOut 5_420_960 ≡ true
+  pub failing-tried : isTried failing 666_879 ≡ true
   pub dropping-tried : isTried dropping 700_000 ≡ true
   pub hurrying-tried : isTried hurrying 667_879 ≡ true
   pub restart-tried : isTried (fastEvents ▷ fastLast) 500_000 ≡ true
   pub of-patient : fairStart patient stopping (wakeAt 587_880) ≡ false
   pub of-unaware : fairStart unaware stoppingLate (wakeAt 687_880) ≡ false
+  pub of-waiting : fairStart waiting runningOut (wakeAt 5_420_960) ≡ false
+  pub of-forgiving : fairStart forgiving failing (wakeAt 666_879) ≡ false
   pub of-unmoved : fairStart unmoved dropping (wakeAt 700_000) ≡ false
   pub of-strict : fairStart strict hurrying (wakeAt 667_879) ≡ false
   pub of-hasty : fairStart hasty (fastEvents ▷ fastLast) (wakeAt 500_000) ≡ false
   -- and of our own link, by which the gate's edits of it (must-fail/) are seen refused first
   pub ours-after-stop : fairStart ourLink stopping (wakeAt 587_880) ≡ true
   pub ours-after-late-stop : fairStart ourLink stoppingLate (wakeAt 687_880) ≡ true
+  pub ours-after-run-out : fairStart ourLink runningOut (wakeAt 5_420_960) ≡ true
+  pub ours-after-failing : fairStart ourLink failing (wakeAt 666_879) ≡ true
   pub ours-after-drop : fairStart ourLink dropping (wakeAt 700_000) ≡ true
   pub ours-after-eight : fairStart ourLink hurrying (wakeAt 667_879) ≡ true
   pub ours-restarts : fairStart ourLink (fastEvents ▷ fastLast) (wakeAt 500_000) ≡ true
   -- the time from which a start may come: after 300 ms on a fresh link and after an initialization that failed, ..
   pub from-fresh : idleUntil ourLink none (wakeAt 300_000) ≡ 300_000
   pub from-failed : idleUntil ourLink slowBefore slowAddress ≡ 2_600_000
+  pub from-wrong-low : idleUntil ourLink failing (wakeAt 666_879) ≡ 911_879
   -- .. after P3 min where the unit has answered a stop, also P3 min as frames have set it; at the very mark where P3 max has run out; ..
   pub from-stop : idleUntil ourLink stopping (wakeAt 587_880) ≡ 587_880
   pub from-late-stop : idleUntil ourLink stoppingLate (wakeAt 687_880) ≡ 707_880
@@ -292,21 +302,28 @@ computed = record {
   outside-silent = refl;
   stopping-tried = refl;
   stopping-late-tried = refl;
+  running-out-tried = refl;
+  failing-tried = refl;
   dropping-tried = refl;
   hurrying-tried = refl;
   restart-tried = refl;
   of-patient = refl;
   of-unaware = refl;
+  of-waiting = refl;
+  of-forgiving = refl;
   of-unmoved = refl;
   of-strict = refl;
   of-hasty = refl;
   ours-after-stop = refl;
   ours-after-late-stop = refl;
+  ours-after-run-out = refl;
+  ours-after-failing = refl;
   ours-after-drop = refl;
   ours-after-eight = refl;
   ours-restarts = refl;
   from-fresh = refl;
   from-failed = refl;
+  from-wrong-low = refl;
   from-stop = refl;
   from-late-stop = refl;
   from-run-out = refl;

@@ -1,4 +1,5 @@
--- The wrong programs of document 01, and the accident, are shut out: each breaks a demand, by what antt computes of it (Computed.antt).
+-- The wrong programs of document 01, the accident, and links with another idle time than document 02 says, are shut out: each breaks a demand, by what antt
+-- computes of it (Computed.antt).
 -- Assumes nothing.
 use Prim.Native.Nat.{ℕ, _+_, _<_}
 use mathlib.Core.Bool.{Bool, true, false, false≢true}
@@ -30,11 +31,11 @@ use Rattle.demands.specs.Histories.{Machine, after, reportsTo, folded, i
 use Rattle.demands.specs.Idle.{p3minIn, idleIn, askedAfter, idleAsked, idleUntil}
 use Rattle.demands.proofs.Connecting.Example.{wakeAt, fastEvents, fastLast, fast-connects, fast-number, allBytes, in-bytes}
 use Rattle.demands.specs.Wrong.{refusing, outsideStep, outside, unchanged, idling, inventing, behind, twice, forgetting, possessive, disordered, repeating, moving, shifting}
-use Rattle.demands.specs.Wrong.{patient, unaware, unmoved, strict, hasty}
+use Rattle.demands.specs.Wrong.{patient, unaware, waiting, forgiving, unmoved, strict, hasty}
 use Rattle.demands.specs.DemandOne.{DemandOne}
 use Rattle.demands.specs.DemandTwo.{DemandTwo}
 use Rattle.demands.specs.DemandThree.{DemandThree}
-use Rattle.demands.proofs.WrongLinks.Computed.{tick, twoBytes, unknown, oneByte, oneHeard, retiming, cutOff, tooSoon, asking, tooLate, addressed, unheard, lowWrong, stopping, stoppingLate, dropping, hurrying}
+use Rattle.demands.proofs.WrongLinks.Computed.{tick, twoBytes, unknown, oneByte, oneHeard, retiming, cutOff, tooSoon, asking, tooLate, addressed, unheard, lowWrong, stopping, stoppingLate, runningOut, failing, dropping, hurrying}
 use Rattle.demands.proofs.WrongLinks.Computed.{is-fair, in-order, named-by, is-fair-start, computed}
 
 -- ---- DEMAND 3 SHUTS OUT ..
@@ -134,7 +135,15 @@ patient-shut d = false≢true (sym (computed .of-patient) ∙ is-fair-start pati
 pub unaware-shut : DemandTwo unaware → ⊥
 unaware-shut d = false≢true (sym (computed .of-unaware) ∙ is-fair-start unaware stoppingLate 687_880 d (computed .stopping-late-tried))
 
--- .. one that a drop while down leaves the shorter time: it starts before 300 ms are over
+-- .. one that keeps 300 ms after P3 max has run out: at the very mark it says 8
+pub waiting-shut : DemandTwo waiting → ⊥
+waiting-shut d = false≢true (sym (computed .of-waiting) ∙ is-fair-start waiting runningOut 5_420_960 d (computed .running-out-tried))
+
+-- .. one that a start that fails leaves the shorter time: 55 ms after a wrong low it starts
+pub forgiving-shut : DemandTwo forgiving → ⊥
+forgiving-shut d = false≢true (sym (computed .of-forgiving) ∙ is-fair-start forgiving failing 666_879 d (computed .failing-tried))
+
+-- .. one that a drop while down leaves it: it starts before 300 ms are over
 pub unmoved-shut : DemandTwo unmoved → ⊥
 unmoved-shut d = false≢true (sym (computed .of-unmoved) ∙ is-fair-start unmoved dropping 700_000 d (computed .dropping-tried))
 

@@ -16,7 +16,6 @@ use Rattle.base.proofs.Tests.{and-split, or-split, by-test}
 use Rattle.units.specs.declared.Micros.{Micros}
 use Rattle.reports.specs.declared.Report.{Report}
 use Rattle.demands.specs.Logs.{markOf, takenOf}
-use Rattle.demands.specs.Refusals.{Not}
 use Rattle.demands.specs.Histories.{Among, first, later, folded, Tells}
 use Rattle.demands.specs.Accounts.{heldIn}
 use Rattle.demands.specs.Idle.{p3minIn, idleAfter, idleIn, askedAfter, idleAsked, idleUntil}
