@@ -77,7 +77,8 @@ pub record DemandTwo (m : Machine) : Type 0 where
   -- ---- b. THE LINK CONNECTS EXACTLY when every byte, complement and window of an initialization holds
   -- Over every list of events from a fresh link: the next event is answered with report 3 exactly if it is taken and completes an initialization. Which
   -- events are taken, and what completes one, is said of the events alone (specs/Logs.antt, Connecting.antt, Starts.antt), but for the idle time before its
-  -- start, which goes by how the link went down, and so by the reports until then (Idle.antt). (`InBytes`: values of events are bytes, as they are in the code.)
+  -- start, which goes by how the link went down, and so by the reports until then (Idle.antt). (`InBytes`: values of events are bytes, as they are in the
+  -- code.)
   pub connects-exactly : (es : Log) (e : Event) → InBytes es
       → Says connectedReport (reportsTo m es e) ↔ ((numberAfter (takenOf es) e ≡ taken) × Connects m (takenOf es) e)
   -- That report is the only one of its event and names all bytes of the initialization and no other; its key bytes are good.

@@ -20,7 +20,8 @@ use Rattle.demands.specs.Histories.{Machine, reportsTo, folded}
 use Rattle.demands.specs.Accounts.{namedBy}
 use Rattle.demands.specs.Sessions.{Talk, opening, openedBy, afterReport, inForce}
 
--- ---- THE LATEST SESSION, from the latest report 3 on, also once it is over: its key bytes and its frames. (Before the first, of the key bytes 0 and 0, which are not good.)
+-- ---- THE LATEST SESSION, from the latest report 3 on, also once it is over: its key bytes and its frames. (Before the first, of the key bytes 0 and 0, which
+-- are not good.)
 unfoldable pub latestAfter : Log → Talk → Report → Talk
 latestAfter log t r = if eqb (r .number) connectedReport then openedBy (namedBy (heardOf log) r) else afterReport t log r
 
@@ -32,8 +33,8 @@ latestTalk m (log ▷ e) = folded (latestAfter (log ▷ e)) (latestTalk m log) (
 unfoldable pub p3minIn : Machine → Log → Micros
 p3minIn m log = inForce (latestTalk m log) .p3min
 
--- ---- WHAT A REPORT LEAVES of the idle time. "After a stop answered by the unit the idle time is P3 min as it was in force; after P3 max has run out it is 0." "a
--- failed initialization, a drop (also while down) and a restart keep 300 ms". Any other report leaves it.
+-- ---- WHAT A REPORT LEAVES of the idle time. "After a stop answered by the unit the idle time is P3 min as it was in force; after P3 max has run out it is
+-- 0." "a failed initialization, a drop (also while down) and a restart keep 300 ms". Any other report leaves it.
 abbrev pub idleDown : Micros → ℕ → Micros
 idleDown p3min reason = if eqb reason stopped then p3min else if eqb reason idleOver then micros 0 else idleAtPowerOn
 

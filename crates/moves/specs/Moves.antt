@@ -132,7 +132,7 @@ byteIn Damage p side v mark start = still p
 unfoldable pub afterByte : Phase → Side → ℕ → Micros → Micros → Move
 afterByte p side v mark start = byteIn (p .state) p side v mark start
 
--- "a unit frame starting C2 after a tester frame starting 82: report 1, then 7 reason 1, down". "After a stop answered by the unit the idle time is P3 min as it
--- was in force".
+-- "a unit frame starting C2 after a tester frame starting 82: report 1, then 7 reason 1, down". "After a stop answered by the unit the idle time is P3 min as
+-- it was in force".
 unfoldable pub afterStop : Phase → Move
 afterStop p = if isQuiet (p .state) && isStopped (p .request) then makes downReport stopped (down (p .windows .p3min)) else still p

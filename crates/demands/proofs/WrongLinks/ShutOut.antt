@@ -97,7 +97,7 @@ unfolding isAmong listed appended stepOf answerOf refusedBy
 no-three true l c e q = rw q (by-test (λ (rs : Reports). isAmong connectedReport (listed rs) ≡ false) (isByte (e .kind)) (λ t. refl) (λ t. refl))
 no-three false l c e q = rw q
 
-first-idle : (m : Machine) (e : Event) → reportsTo m none e ≡ [] → idleUntil m none e ≡ 300_000
+first-idle : (m : Machine) (e : Event) → reportsTo m none e ≡ [] → idleUntil m none e ≡ idleAtPowerOn .0
 unfolding markOf idleAsked idleIn folded
 first-idle m e q = ap (λ (rs : List Report). 0 + folded (askedAfter (p3minIn m none)) idleAtPowerOn rs .0) q
 
