@@ -244,6 +244,11 @@ pub record Computed : Type 0 where
   pub of-strict : fairStart strict hurrying (wakeAt 667_879) ≡ false
   pub of-hasty : fairStart hasty (fastEvents ▷ fastLast) (wakeAt 500_000) ≡ false
   -- and of our own link, by which the gate's edits of it (must-fail/) are seen refused first
+  pub ours-taken : after ourLink retiming .link .taken ≡ 26
+  pub ours-fair : fair ourLink retiming ≡ true
+  pub ours-connects : isAmong connectedReport (reportsTo ourLink fastEvents fastLast) ≡ true
+  pub ours-cut-off : isInOrder 0 (reportsTo ourLink cutOff tooSoon) ≡ true
+  pub ours-over : overRight ourLink addressed lowWrong ≡ true
   pub ours-after-stop : fairStart ourLink stopping (wakeAt 587_880) ≡ true
   pub ours-after-late-stop : fairStart ourLink stoppingLate (wakeAt 687_880) ≡ true
   pub ours-after-run-out : fairStart ourLink runningOut (wakeAt 5_420_960) ≡ true
@@ -263,11 +268,6 @@ pub record Computed : Type 0 where
   pub from-drop : idleUntil ourLink dropping (wakeAt 700_000) ≡ 832_880
   pub from-restart : idleUntil ourLink (fastEvents ▷ fastLast) (wakeAt 500_000) ≡ 711_520
   pub from-eight : idleUntil ourLink hurrying (wakeAt 667_879) ≡ 667_879
-  pub ours-taken : after ourLink retiming .link .taken ≡ 26
-  pub ours-fair : fair ourLink retiming ≡ true
-  pub ours-connects : isAmong connectedReport (reportsTo ourLink fastEvents fastLast) ≡ true
-  pub ours-cut-off : isInOrder 0 (reportsTo ourLink cutOff tooSoon) ≡ true
-  pub ours-over : overRight ourLink addressed lowWrong ≡ true
 
 pub computed : Computed
 unfolding
@@ -314,6 +314,11 @@ computed = record {
   of-unmoved = refl;
   of-strict = refl;
   of-hasty = refl;
+  ours-taken = refl;
+  ours-fair = refl;
+  ours-connects = refl;
+  ours-cut-off = refl;
+  ours-over = refl;
   ours-after-stop = refl;
   ours-after-late-stop = refl;
   ours-after-run-out = refl;
@@ -330,9 +335,4 @@ computed = record {
   from-drop = refl;
   from-restart = refl;
   from-eight = refl;
-  ours-taken = refl;
-  ours-fair = refl;
-  ours-connects = refl;
-  ours-cut-off = refl;
-  ours-over = refl;
 }
