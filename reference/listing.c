@@ -6,7 +6,7 @@
  *
  * reads events, one a line, from FILE or from standard input and writes the listing to standard output.
  * Compiled with -DTALLY it also says on standard error, at the end, how many events it took and how often every
- * report with its reason, every refusal and every situation of an idle time came.
+ * report with its reason, every refusal and every situation of an idle time or of an ISO 9141-2 car came.
  *
  * All times are in microseconds. Memory is constant; a line may have any length and any bytes.
  */
@@ -20,6 +20,9 @@
 #include <stdlib.h>
 #include <string.h>
 #include <unistd.h>
+#ifdef TALLY
+#include <assert.h>
+#endif
 
 #define LAST_TIME   4000000000000u
 #define MOST_EVENTS 4000000000u
@@ -32,6 +35,10 @@
 #define WAKE_MIN    49000u   /* from a wake-up's fall to the tester's first byte */
 #define WAKE_MAX    51000u
 #define P4_MAX      20000u
+
+#define CAR_ADDRESS 0x33     /* the one that an ISO 9141-2 car answers */
+#define CAR_LEAST   5u       /* bytes of a car's message: head of three, one to seven data bytes, checksum */
+#define CAR_MOST    11u
 
 enum refusal { TAKEN, UNREADABLE, TIME_TOO_BIG, TIME_BACKWARDS, TOO_MANY };
 
@@ -115,6 +122,76 @@ enum situation {
 
 static unsigned long seen_idle[SITUATIONS][2]; /* answered with report 8, and started */
 
+/* What came up with cars. A name that stands for several is the first of them; behind it, what they go by. */
+enum car_situation {
+    /* Starts */
+    UP_WITH = 1,                      /* 08 08, 94 94 */
+    CAR_AFTER_CAR = UP_WITH + 2,      /* 08 08 behind 94 94, 94 94 behind 08 08 */
+    CAR_AFTER_14230 = CAR_AFTER_CAR + 2,
+    ISO_14230_AFTER_CAR,
+    OTHER_ADDRESS,                    /* 08 08, 94 94 */
+    MIXED_KEYS = OTHER_ADDRESS + 2,   /* 08 94, 94 08 */
+    FAST_KEYS = MIXED_KEYS + 2,       /* 08 08, 94 94 */
+    BACK_WRONG = FAST_KEYS + 2,       /* the complement of the key byte, CC */
+    BACK_EARLY = BACK_WRONG + 2,      /* the same */
+    SOON_AFTER_CAR = BACK_EARLY + 2,
+    /* Messages that have ended */
+    REQUEST_OF,                       /* 5 to 11 bytes */
+    REPLY_OF = REQUEST_OF + 7,        /* the same */
+    HEAD_OF_REQUEST = REPLY_OF + 7,   /* first, second, third byte */
+    HEAD_OF_REPLY = HEAD_OF_REQUEST + 3, /* first, second byte */
+    HEAD_AND_SIZE = HEAD_OF_REPLY + 2, /* too few, too many bytes */
+    HEAD_AND_SUM = HEAD_AND_SIZE + 2,
+    TOO_FEW,                          /* 1 to 4 bytes */
+    TWELVE = TOO_FEW + 4,
+    MORE_THAN_TWELVE,
+    EIGHT_BITS_MORE,                  /* so that the size seems right in eight bits */
+    SIZE_AND_SUM,                     /* too few, too many bytes */
+    SIZE_ALONE = SIZE_AND_SUM + 2,    /* the same */
+    WRONG_SUM = SIZE_ALONE + 2,       /* request, reply */
+    TWO_REPLIES = WRONG_SUM + 2,      /* right, reason 8, reason 9 */
+    TWO_UNDER = TWO_REPLIES + 3,      /* 08 08, 94 94 */
+    /* Limits: at the last moment before a rule begins or ceases to act, and one microsecond later */
+    GAP_TICK = TWO_UNDER + 2,
+    GAP_BYTE = GAP_TICK + 2,
+    GAP_REPLY = GAP_BYTE + 2,
+    GAP_CLOSED = GAP_REPLY + 2,
+    GAP_DAMAGE = GAP_CLOSED + 2,
+    FIRST_AT_MIN = GAP_DAMAGE + 2,
+    FIRST_AT_MAX = FIRST_AT_MIN + 2,  /* for 08 08, for 94 94 */
+    FURTHER_AT_MIN = FIRST_AT_MAX + 4,
+    FURTHER_AT_MAX = FURTHER_AT_MIN + 2, /* for 08 08, for 94 94 */
+    P2_TICK = FURTHER_AT_MAX + 4,
+    P3_MIN = P2_TICK + 2,             /* for 08 08, for 94 94 */
+    P3_TICK = P3_MIN + 4,
+    /* Bytes */
+    REPLY_AT_ONCE = P3_TICK + 2,
+    EARLY_FIRST,
+    STRAY_FIRST,
+    OTHER_BYTE,                       /* 08 08 in a request, in a reply; 94 94 in a reply */
+    OTHER_AFTER = OTHER_BYTE + 3,     /* a whole request, a wrong head, too many bytes */
+    ENDS_RIGHT = OTHER_AFTER + 3,
+    ENDS_WRONG,                       /* reason 6, 8, 9 */
+    GOES_ON = ENDS_WRONG + 3,
+    /* What an address, a wake-up or a drop closes */
+    CLOSED_RIGHT,                     /* address, wake-up, drop */
+    CLOSED_WRONG = CLOSED_RIGHT + 3,
+    CLOSED_DAMAGE,
+    /* Reports together */
+    TOGETHER,                         /* as in the table of tally_together */
+    OUT_BEHIND = TOGETHER + 12,       /* reason 6, 8, 9 */
+    OUT_BEHIND_DAMAGE = OUT_BEHIND + 3,
+    /* Data that would do something on a 14230 link */
+    NO_STOP,
+    NO_SET,
+    NO_CODES,
+    SAME_WINDOWS,
+    HELD_AT_END,
+    CAR_SITUATIONS
+};
+
+static unsigned long seen_car[CAR_SITUATIONS];
+
 static void print_tally(uint64_t events)
 {
     fprintf(stderr, "taken %llu\n", (unsigned long long)events);
@@ -129,10 +206,16 @@ static void print_tally(uint64_t events)
         for (int started = 0; started < 2; started++)
             if (seen_idle[situation][started])
                 fprintf(stderr, "idle %d %d %lu\n", situation, started, seen_idle[situation][started]);
+    for (int situation = 1; situation < CAR_SITUATIONS; situation++)
+        if (seen_car[situation])
+            fprintf(stderr, "car %d %lu\n", situation, seen_car[situation]);
 }
 #endif
 
 /* ---- Key bytes and timing ---- */
+
+/* What the key bytes choose: ISO 14230, or ISO 9141-2 with 08 08 or 94 94. */
+enum edition { ISO_14230, CAR_08, CAR_94 };
 
 struct timing {
     uint64_t p2_min, p2_max, p3_min, p3_max;
@@ -140,6 +223,7 @@ struct timing {
 
 static const struct timing NORMAL = { 25000, 50000, 55000, 5000000 };
 static const struct timing EXTENDED = { 0, 1000000, 5500, 5000000 };
+static const struct timing AT_ONCE = { 0, 50000, 55000, 5000000 }; /* of 94 94: normal, but a reply may come at once */
 
 static bool bit(uint8_t byte, int n)
 {
@@ -156,8 +240,27 @@ static bool keys_good(uint8_t kb1, uint8_t kb2)
            (bit(kb1, 0) || bit(kb1, 1)) && (bit(kb1, 2) || bit(kb1, 3));
 }
 
+static bool car_keys_good(uint8_t kb1, uint8_t kb2)
+{
+    return kb1 == kb2 && (kb1 == 0x08 || kb1 == 0x94);
+}
+
+/* Of a good pair: no KB1 of ISO 14230 is 08 or 94, as bit 6 is clear in both. */
+static enum edition edition_of_keys(uint8_t kb1)
+{
+    return kb1 == 0x08 ? CAR_08 : kb1 == 0x94 ? CAR_94 : ISO_14230;
+}
+
 static struct timing timing_of_keys(uint8_t kb1)
 {
+    switch (edition_of_keys(kb1)) {
+    case CAR_08:
+        return NORMAL;
+    case CAR_94:
+        return AT_ONCE;
+    case ISO_14230:
+        break;
+    }
     return bit(kb1, 4) ? EXTENDED : NORMAL;
 }
 
@@ -239,8 +342,11 @@ struct start {
 
 enum reply { NO_REPLY_DUE, FIRST_DUE, FURTHER_DUE };
 
-/* Where in a message the next byte stands; behind a byte that is wrong, all are skipped. */
-enum place { AT_FORMAT, AT_TARGET, AT_SOURCE, AT_LENGTH, AT_DATA, AT_SUM, SKIPPING };
+/*
+ * Where in a message the next byte stands; behind a byte that is wrong, all are skipped. A car's message has no length,
+ * so that any byte may be its last: behind the first, all stand in one place.
+ */
+enum place { AT_FIRST, AT_TARGET, AT_SOURCE, AT_LENGTH, AT_DATA, AT_SUM, IN_CAR_MESSAGE, SKIPPING };
 
 /* A frame's data as far as the link looks at it: 83 03 and five codes are the longest. */
 struct data {
@@ -250,9 +356,12 @@ struct data {
 
 struct message {
     char side;
-    uint8_t sum;
+    uint8_t sum;      /* of the bytes so far; of a car's, of those before the last */
     unsigned length;  /* data bytes announced; 0 before an extra length byte */
     struct data data; /* data bytes so far */
+    uint8_t last;     /* of a car's, the last byte so far, which may be the checksum, */
+    unsigned size;    /* how many there are, no further than one too many, */
+    bool wrong_head;  /* and whether one of the head is wrong */
 };
 
 struct counts {
@@ -269,6 +378,7 @@ struct link {
     struct counts counts;
     uint8_t kb1, kb2;
     struct start start;
+    enum edition edition;
     struct timing timing;
     enum reply reply;
     enum place place;
@@ -307,6 +417,12 @@ static void count_report(struct counts *counts, enum report number, uint64_t byt
     }
 }
 
+#ifdef TALLY
+/* Of the event being taken: the link before it, and what it has reported, as ten times the number and the reason. */
+static struct link before;
+static int said[4], said_count;
+#endif
+
 static void report(struct link *link, enum report number, int reason, uint64_t bytes)
 {
     begin_line();
@@ -324,6 +440,8 @@ static void report(struct link *link, enum report number, int reason, uint64_t b
     count_report(&link->counts, number, bytes);
 #ifdef TALLY
     seen_report[number][reason]++;
+    assert(said_count < 4); /* never five for one event */
+    said[said_count++] = 10 * (int)number + reason;
 #endif
 }
 
@@ -419,8 +537,39 @@ static void go_down(struct link *link, enum report number, int reason)
 static void close_held(struct link *link, int message_reason)
 {
     report(link, DAMAGE, link->place == SKIPPING ? link->reason : message_reason, held(link));
-    link->place = AT_FORMAT;
+    link->place = AT_FIRST;
     link->reply = NO_REPLY_DUE;
+}
+
+/* The held message is over, and right. A tester's awaits a first reply; a unit's allows further ones. */
+static void end_message(struct link *link)
+{
+    report(link, FRAME, 0, held(link));
+    link->place = AT_FIRST;
+    link->reply = link->message.side == 't' ? FIRST_DUE : FURTHER_DUE;
+}
+
+/* What is wrong with a car's message that has ended, 0 if nothing is: head before size before sum. */
+static int car_fault(const struct message *message)
+{
+    if (message->wrong_head)
+        return FORM;
+    if (message->size < CAR_LEAST || message->size > CAR_MOST)
+        return LENGTH;
+    if (message->last != message->sum)
+        return CHECKSUM;
+    return 0;
+}
+
+/* A car's message has ended: only now is it judged. */
+static void judge_car_message(struct link *link)
+{
+    int fault = car_fault(&link->message);
+
+    if (fault)
+        close_held(link, fault);
+    else
+        end_message(link);
 }
 
 static void pass_time(struct link *link, uint64_t time)
@@ -431,7 +580,9 @@ static void pass_time(struct link *link, uint64_t time)
         if (time > link->start.latest)
             go_down(link, FAILED, INIT_LATE);
     } else if (link->phase == CONNECTED && gap > MESSAGE_GAP) { /* every P2 max and P3 max is longer */
-        if (link->place != AT_FORMAT)
+        if (link->place == IN_CAR_MESSAGE)
+            judge_car_message(link);
+        else if (link->place != AT_FIRST)
             close_held(link, BROKEN_OFF);
         if (link->reply == FIRST_DUE && gap > link->timing.p2_max) {
             report(link, NO_REPLY, 0, 0);
@@ -448,7 +599,7 @@ static void close_all(struct link *link, int down_reason)
     if (link->phase == STARTING) {
         go_down(link, FAILED, INIT_CUT);
     } else if (link->phase == CONNECTED) {
-        if (link->place != AT_FORMAT)
+        if (link->place != AT_FIRST)
             close_held(link, CUT);
         go_down(link, LINK_DOWN, down_reason);
     }
@@ -511,7 +662,8 @@ static bool value_fits(struct link *link, uint8_t value)
         return true;
     case SECOND_KEY:
         link->kb2 = value;
-        return keys_good(link->kb1, link->kb2);
+        return keys_good(link->kb1, link->kb2) ||
+               (link->start.address == CAR_ADDRESS && car_keys_good(link->kb1, link->kb2));
     case KEY_BACK:
         return value == 255 - link->kb2;
     case ADDRESS_BACK:
@@ -559,9 +711,10 @@ static void connect(struct link *link)
 {
     report(link, CONNECTION, 0, held(link));
     link->phase = CONNECTED;
+    link->edition = edition_of_keys(link->kb1);
     link->timing = timing_of_keys(link->kb1);
     link->reply = NO_REPLY_DUE;
-    link->place = AT_FORMAT;
+    link->place = AT_FIRST;
     link->request.length = 0;
 }
 
@@ -585,27 +738,29 @@ static void starting_byte(struct link *link, const struct event *event)
 
 /* ---- The connected link ---- */
 
-/* What is wrong with a message's first byte, 0 if nothing is. */
-static int first_byte_fault(const struct link *link, const struct event *event)
+/* What is wrong with the time of a message's first byte, 0 if nothing is. */
+static int time_fault(const struct link *link, const struct event *event)
 {
     uint64_t gap = event->start - link->mark;
-    int mode = event->value >> 6;
-    int length = event->value & 0x3F;
 
-    if (event->side == 't') {
-        if (link->reply == FIRST_DUE || gap < link->timing.p3_min)
-            return TOO_EARLY;
-    } else {
-        if (link->reply == NO_REPLY_DUE || gap > link->timing.p2_max)
-            return STRAY;
-        if (gap < link->timing.p2_min)
-            return TOO_EARLY;
-    }
+    if (event->side == 't')
+        return link->reply == FIRST_DUE || gap < link->timing.p3_min ? TOO_EARLY : 0;
+    if (link->reply == NO_REPLY_DUE || gap > link->timing.p2_max)
+        return STRAY;
+    return gap < link->timing.p2_min ? TOO_EARLY : 0;
+}
+
+/* What is wrong with a format byte, 0 if nothing is. */
+static int format_fault(uint8_t kb1, uint8_t format)
+{
+    int mode = format >> 6;
+    int length = format & 0x3F;
+
     if (mode == 1)
         return MODE_01;
-    if (!bit(link->kb1, mode == 0 ? 2 : 3) || (mode == 3 && bit(link->kb1, 4)))
+    if (!bit(kb1, mode == 0 ? 2 : 3) || (mode == 3 && bit(kb1, 4)))
         return FORM;
-    if (!bit(link->kb1, length == 0 ? 1 : 0))
+    if (!bit(kb1, length == 0 ? 1 : 0))
         return LENGTH;
     return 0;
 }
@@ -633,19 +788,15 @@ static void answer(struct link *link, const struct data *data)
     }
 }
 
-static void end_message(struct link *link)
+static void end_frame(struct link *link)
 {
     struct message *message = &link->message;
 
-    report(link, FRAME, 0, held(link));
-    link->place = AT_FORMAT;
-    if (message->side == 't') {
-        link->reply = FIRST_DUE;
+    end_message(link);
+    if (message->side == 't')
         link->request = message->data;
-    } else {
-        link->reply = FURTHER_DUE;
+    else
         answer(link, &message->data);
-    }
 }
 
 static void skip(struct link *link, int reason)
@@ -654,10 +805,10 @@ static void skip(struct link *link, int reason)
     link->reason = reason;
 }
 
-static void first_byte(struct link *link, const struct event *event)
+static void format_byte(struct link *link, const struct event *event)
 {
     struct message *message = &link->message;
-    int fault = first_byte_fault(link, event);
+    int fault = format_fault(link->kb1, event->value);
 
     if (fault) {
         skip(link, fault);
@@ -701,16 +852,74 @@ static void later_byte(struct link *link, const struct event *event)
         if (event->value == 0)
             skip(link, LENGTH);
     } else if (event->value == sum) {
-        end_message(link);
+        end_frame(link);
     } else {
         skip(link, CHECKSUM);
     }
 }
 
+/* Whether a byte fits a car's head. The third byte of a reply is the unit's address, which may be any. */
+static bool head_fits(char side, unsigned place, uint8_t value)
+{
+    static const uint8_t REQUEST[] = { 0x68, 0x6A, 0xF1 };
+    static const uint8_t REPLY[] = { 0x48, 0x6B };
+
+    if (side == 't')
+        return place >= sizeof REQUEST || value == REQUEST[place];
+    return place >= sizeof REPLY || value == REPLY[place];
+}
+
+/* Whatever a byte is, it joins a car's message of its side. */
+static void join_car_message(struct message *message, uint8_t value)
+{
+    if (!head_fits(message->side, message->size, value))
+        message->wrong_head = true;
+    message->sum += message->last;
+    message->last = value;
+    if (message->size <= CAR_MOST)
+        message->size++;
+}
+
+static void first_car_byte(struct link *link, const struct event *event)
+{
+    link->place = IN_CAR_MESSAGE;
+    link->message = (struct message){ .side = event->side };
+    join_car_message(&link->message, event->value);
+}
+
+static void later_car_byte(struct link *link, const struct event *event)
+{
+    if (event->side != link->message.side)
+        skip(link, OTHER_SIDE);
+    else
+        join_car_message(&link->message, event->value);
+}
+
+/* Under 94 94 a unit byte ends a held tester message, as the gap would. */
+static bool ends_request(const struct link *link, const struct event *event)
+{
+    return link->phase == CONNECTED && link->place == IN_CAR_MESSAGE && link->edition == CAR_94 &&
+           link->message.side == 't' && event->side == 'e';
+}
+
+static void first_byte(struct link *link, const struct event *event)
+{
+    int fault = time_fault(link, event);
+
+    if (fault)
+        skip(link, fault);
+    else if (link->edition == ISO_14230)
+        format_byte(link, event);
+    else
+        first_car_byte(link, event);
+}
+
 static void connected_byte(struct link *link, const struct event *event)
 {
-    if (link->place == AT_FORMAT)
+    if (link->place == AT_FIRST)
         first_byte(link, event);
+    else if (link->place == IN_CAR_MESSAGE)
+        later_car_byte(link, event);
     else if (link->place != SKIPPING)
         later_byte(link, event);
 }
@@ -719,6 +928,8 @@ static void connected_byte(struct link *link, const struct event *event)
 
 static void take_byte(struct link *link, const struct event *event)
 {
+    if (ends_request(link, event))
+        judge_car_message(link);
     link->counts.heard++;
     switch (link->phase) {
     case DOWN:
@@ -742,6 +953,356 @@ static void take_drop(struct link *link)
     set_idle(link, LINK_DOWN, DROPPED); /* also where the link was down already, without a report */
 }
 
+/* ---- Tally of cars ---- */
+
+#ifdef TALLY
+/* The message or damage that is open on a car's link. */
+static struct {
+    char side;        /* of its first byte */
+    uint64_t size;
+    uint8_t byte[22]; /* its first ones, enough for two messages */
+} span;
+
+static struct data asked;       /* data of the latest request */
+static struct timing otherwise; /* the windows that data of requests and replies would have set on a 14230 link */
+
+static void tally_before(const struct link *link)
+{
+    before = *link;
+    memset(said, 0, sizeof said);
+    said_count = 0;
+}
+
+/* A situation where a gap is as long as a limit, and the next one where it is one microsecond longer. */
+static void tally_limit(uint64_t gap, uint64_t limit, enum car_situation situation)
+{
+    if (gap == limit || gap == limit + 1)
+        seen_car[situation + (gap - limit)]++;
+}
+
+/* The place of the first report's reason among 6, 8 and 9. */
+static int fault_said(void)
+{
+    return said[0] == 26 ? 0 : said[0] == 28 ? 1 : 2;
+}
+
+static void tally_connection(const struct link *link)
+{
+    asked.length = 0;
+    otherwise = link->timing;
+    if (link->edition != ISO_14230)
+        seen_car[UP_WITH + link->edition - CAR_08]++;
+    if (seen_report[CONNECTION][0] == 1 || link->edition == before.edition)
+        return; /* there is none before it, or it is of the same kind */
+    if (link->edition == ISO_14230)
+        seen_car[ISO_14230_AFTER_CAR]++;
+    else if (before.edition == ISO_14230)
+        seen_car[CAR_AFTER_14230]++;
+    else
+        seen_car[CAR_AFTER_CAR + link->edition - CAR_08]++;
+}
+
+/* A byte of an initialization has failed by its value. */
+static void tally_wrong_value(const struct event *event)
+{
+    const struct start *start = &before.start;
+    uint8_t other = before.kb1 == 0x08 ? 0x94 : 0x08;
+    int which = before.kb1 == 0x94;
+
+    if (start->stage == SECOND_KEY && start->address != CAR_ADDRESS && car_keys_good(before.kb1, event->value))
+        seen_car[OTHER_ADDRESS + which]++;
+    if (start->stage == SECOND_KEY && start->address == CAR_ADDRESS && car_keys_good(before.kb1, before.kb1) &&
+        event->value == other)
+        seen_car[MIXED_KEYS + which]++;
+    if (start->stage == REPLY_SUM && event->value == start->sum && car_keys_good(before.kb1, before.kb2))
+        seen_car[FAST_KEYS + which]++;
+}
+
+static void tally_start_byte(const struct link *link, const struct event *event)
+{
+    enum stage stage = before.start.stage;
+    bool back = (stage == KEY_BACK || stage == ADDRESS_BACK) && car_keys_good(before.kb1, before.kb2);
+
+    if (said[0] == 30)
+        tally_connection(link);
+    else if (back && said[0] == 45)
+        seen_car[BACK_EARLY + (stage == ADDRESS_BACK)]++;
+    else if (back && said[0] == 46)
+        seen_car[BACK_WRONG + (stage == ADDRESS_BACK)]++;
+    else if (said[0] == 46)
+        tally_wrong_value(event);
+}
+
+/* A right message: what its data would do on a 14230 link. */
+static void tally_data(void)
+{
+    struct data data = { .length = (unsigned)span.size - 4 };
+
+    memcpy(data.byte, span.byte + 3, data.length);
+    if (span.side == 't') {
+        asked = data;
+    } else if (asked.length > 0 && asked.byte[0] == 0x82 && data.byte[0] == 0xC2) {
+        seen_car[NO_STOP]++;
+    } else if (is_exactly(&asked, 2, 0x83, 0x01) && is_exactly(&data, 2, 0xC3, 0x01)) {
+        seen_car[NO_SET]++;
+        otherwise = bit(before.kb1, 4) ? EXTENDED : NORMAL;
+    } else if (is_exactly(&asked, 7, 0x83, 0x03) && is_exactly(&data, 2, 0xC3, 0x03)) {
+        if (timing_of_codes(asked.byte + 2, &otherwise))
+            seen_car[NO_CODES]++;
+    }
+}
+
+static bool is_reply(const uint8_t *byte, uint64_t size)
+{
+    struct message message = { .side = 'e' };
+
+    for (uint64_t i = 0; i < size; i++)
+        join_car_message(&message, byte[i]);
+    return car_fault(&message) == 0;
+}
+
+/* Whether a unit's message is two right ones end to end. */
+static bool is_two_replies(void)
+{
+    if (span.side != 'e' || span.size > sizeof span.byte)
+        return false;
+    for (uint64_t first = CAR_LEAST; first < span.size; first++)
+        if (is_reply(span.byte, first) && is_reply(span.byte + first, span.size - first))
+            return true;
+    return false;
+}
+
+/* Of a message whose head is wrong, the one wrong byte's place; none if there are several. */
+static int wrong_place(void)
+{
+    int place = -1;
+
+    for (unsigned i = 0; i < 3 && i < span.size; i++)
+        if (!head_fits(span.side, i, span.byte[i]))
+            place = place < 0 ? (int)i : 3;
+    return place;
+}
+
+static void tally_wrong_size(bool sum_right)
+{
+    if (span.size < CAR_LEAST)
+        seen_car[TOO_FEW + span.size - 1]++;
+    else if (span.size == 12)
+        seen_car[TWELVE]++;
+    else if (sum_right && span.size >= 256 + CAR_LEAST && span.size <= 256 + CAR_MOST)
+        seen_car[EIGHT_BITS_MORE]++;
+    else
+        seen_car[MORE_THAN_TWELVE]++;
+    seen_car[(sum_right ? SIZE_ALONE : SIZE_AND_SUM) + (span.size > CAR_MOST)]++;
+}
+
+/* A message has been judged. */
+static void tally_judged(void)
+{
+    bool tester = span.side == 't';
+    bool size_right = span.size >= CAR_LEAST && span.size <= CAR_MOST;
+    bool sum_right = before.message.last == before.message.sum;
+
+    if (said[0] == 10) {
+        seen_car[(tester ? REQUEST_OF : REPLY_OF) + span.size - CAR_LEAST]++;
+        tally_data();
+    } else if (said[0] == 26 && !size_right) {
+        seen_car[HEAD_AND_SIZE + (span.size > CAR_MOST)]++;
+    } else if (said[0] == 26 && !sum_right) {
+        seen_car[HEAD_AND_SUM]++;
+    } else if (said[0] == 26 && wrong_place() < 3) {
+        seen_car[(tester ? HEAD_OF_REQUEST : HEAD_OF_REPLY) + wrong_place()]++;
+    } else if (said[0] == 28) {
+        tally_wrong_size(sum_right);
+    } else if (said[0] == 29) {
+        seen_car[WRONG_SUM + !tester]++;
+    }
+    if (is_two_replies()) {
+        seen_car[TWO_REPLIES + (said[0] == 10 ? 0 : fault_said())]++;
+        seen_car[TWO_UNDER + before.edition - CAR_08]++;
+    }
+}
+
+/* Damage has ended: whether more than the time of its first byte was wrong. */
+static void tally_damage(void)
+{
+    if (wrong_place() >= 0 || span.size < CAR_LEAST || span.size > CAR_MOST) {
+        if (said[0] == 23)
+            seen_car[EARLY_FIRST]++;
+        if (said[0] == 24)
+            seen_car[STRAY_FIRST]++;
+    }
+}
+
+static void tally_tick(uint64_t gap)
+{
+    if (before.place != IN_CAR_MESSAGE)
+        return;
+    tally_limit(gap, MESSAGE_GAP, GAP_TICK);
+    if (said[0] == 10 && span.side == 't')
+        tally_limit(gap, before.timing.p2_max, P2_TICK);
+    if (said[0] == 10 && span.side == 'e')
+        tally_limit(gap, before.timing.p3_max, P3_TICK);
+}
+
+/* An address, a wake-up or a drop. */
+static void tally_close(const struct event *event, uint64_t gap)
+{
+    if (before.place == IN_CAR_MESSAGE) {
+        tally_limit(gap, MESSAGE_GAP, GAP_CLOSED);
+        if (said[0] == 22 && car_fault(&before.message) == 0)
+            seen_car[CLOSED_RIGHT + (event->kind == 'A' ? 0 : event->kind == 'W' ? 1 : 2)]++;
+        else if (said[0] == 22)
+            seen_car[CLOSED_WRONG]++;
+    } else if (before.place == SKIPPING && gap <= MESSAGE_GAP) {
+        seen_car[CLOSED_DAMAGE]++;
+    }
+}
+
+/* A byte of the other side comes to a held message: it fails, or under 94 94 ends a request. */
+static void tally_other_side(const struct link *link)
+{
+    bool ends = said_count > 0;
+
+    if (ends) {
+        seen_car[said[0] == 10 ? ENDS_RIGHT : ENDS_WRONG + fault_said()]++;
+        return;
+    }
+    seen_car[OTHER_BYTE + (link->edition == CAR_94 ? 2 : span.side == 'e')]++;
+    if (span.side == 't' && car_fault(&before.message) == 0)
+        seen_car[OTHER_AFTER]++;
+    else if (before.message.wrong_head)
+        seen_car[OTHER_AFTER + 1]++;
+    else if (span.size > CAR_MOST)
+        seen_car[OTHER_AFTER + 2]++;
+}
+
+/* The first byte of a message has been judged by its time. */
+static void tally_first_byte(const struct link *link, const struct event *event, uint64_t gap)
+{
+    int fault = link->place == SKIPPING ? link->reason : 0;
+    int which = link->edition - CAR_08;
+    bool first = link->reply == FIRST_DUE || said[0] == 60 || said[1] == 60;
+    struct link changed = *link;
+
+    changed.mark = before.mark;
+    changed.timing = otherwise;
+    if (time_fault(&changed, event) != fault)
+        seen_car[SAME_WINDOWS]++;
+    if (event->side == 't') {
+        tally_limit(gap, link->timing.p3_min - 1, P3_MIN + 2 * which);
+    } else if (first || link->reply == FURTHER_DUE) {
+        if (link->edition == CAR_08)
+            tally_limit(gap, link->timing.p2_min - 1, first ? FIRST_AT_MIN : FURTHER_AT_MIN);
+        tally_limit(gap, link->timing.p2_max, (first ? FIRST_AT_MAX : FURTHER_AT_MAX) + 2 * which);
+    }
+}
+
+static void tally_byte(const struct link *link, const struct event *event, uint64_t gap)
+{
+    bool begins = before.place == AT_FIRST || said_count > 0;
+    bool other = event->side != span.side;
+
+    if (before.place == IN_CAR_MESSAGE) {
+        if (!other)
+            tally_limit(gap, MESSAGE_GAP, GAP_BYTE);
+        else if (gap <= MESSAGE_GAP)
+            tally_other_side(link);
+        if (other && link->edition == CAR_94 && said[0] == 10 && span.side == 't') {
+            tally_limit(gap, MESSAGE_GAP, GAP_REPLY);
+            if (gap == 0)
+                seen_car[REPLY_AT_ONCE]++;
+        }
+    } else if (before.place == SKIPPING) {
+        tally_limit(gap, MESSAGE_GAP, GAP_DAMAGE);
+        if (gap <= MESSAGE_GAP && link->edition == CAR_94 && span.side == 't' && other)
+            seen_car[GOES_ON]++;
+    }
+    if (link->phase != CONNECTED)
+        return;
+    if (begins) {
+        tally_first_byte(link, event, gap);
+        span.side = event->side;
+        span.size = 0;
+    }
+    if (span.size < sizeof span.byte)
+        span.byte[span.size] = event->value;
+    span.size++;
+}
+
+static void tally_together(const struct link *link, const struct event *event)
+{
+    static const struct {
+        char kind;
+        bool starts;
+        int said[4];
+    } TABLE[OUT_BEHIND - TOGETHER] = {
+        { 'B', false, { 10, 60, 72, 50 } },
+        { 'W', false, { 10, 60, 72, 43 } },
+        { 'A', false, { 10, 60, 74, 80 } },
+        { 'W', false, { 10, 60, 74, 80 } },
+        { 'W', false, { 10, 60, 74, 43 } },
+        { 'A', true, { 10, 60, 72 } },
+        { 'W', true, { 10, 60, 72 } },
+        { 'A', true, { 10, 60, 74 } },
+        { 'W', true, { 10, 60, 74 } },
+        { 'D', false, { 10, 60, 73 } },
+        { 'D', false, { 10, 60, 72 } },
+        { 'T', false, { 10, 60, 72 } },
+    };
+
+    for (int i = 0; i < OUT_BEHIND - TOGETHER; i++)
+        if (event->kind == TABLE[i].kind && (link->phase == STARTING) == TABLE[i].starts &&
+            memcmp(said, TABLE[i].said, sizeof said) == 0)
+            seen_car[TOGETHER + i]++;
+    if (said[0] / 10 == DAMAGE && said[1] == 72) {
+        if (before.place == SKIPPING)
+            seen_car[OUT_BEHIND_DAMAGE]++;
+        else
+            seen_car[OUT_BEHIND + fault_said()]++;
+    }
+}
+
+/* An event on a car's link. */
+static void tally_car(const struct link *link, const struct event *event)
+{
+    uint64_t gap = event->start - before.mark;
+
+    if (before.place == IN_CAR_MESSAGE && said_count > 0 && said[0] != 22)
+        tally_judged();
+    if (before.place == SKIPPING && said_count > 0)
+        tally_damage();
+    tally_together(link, event);
+    if (event->kind == 'T')
+        tally_tick(gap);
+    else if (event->kind == 'B')
+        tally_byte(link, event, gap);
+    else
+        tally_close(event, gap);
+}
+
+static void tally_after(const struct link *link, const struct event *event)
+{
+    bool start = event->kind == 'A' || event->kind == 'W';
+
+    if (before.phase == STARTING && event->kind == 'B')
+        tally_start_byte(link, event);
+    else if (before.phase == CONNECTED && before.edition != ISO_14230)
+        tally_car(link, event);
+    else if (before.phase == DOWN && start && before.edition != ISO_14230 && before.idle == 0 &&
+             event->start - before.mark < LONG_IDLE)
+        seen_car[SOON_AFTER_CAR]++;
+}
+
+static void tally_end(const struct link *link)
+{
+    if (link->phase == CONNECTED && link->place == IN_CAR_MESSAGE && car_fault(&link->message) == 0)
+        seen_car[HELD_AT_END]++;
+}
+#endif
+
+/* ---- Taking an event ---- */
+
 static enum refusal take(struct link *link, const struct event *event)
 {
     if (event->start > LAST_TIME || event->end > LAST_TIME)
@@ -751,6 +1312,9 @@ static enum refusal take(struct link *link, const struct event *event)
     if (link->events == MOST_EVENTS)
         return TOO_MANY;
 
+#ifdef TALLY
+    tally_before(link);
+#endif
     link->events++;
     link->clock = event->end;
     pass_time(link, event->start);
@@ -764,6 +1328,9 @@ static enum refusal take(struct link *link, const struct event *event)
         take_drop(link);
     if (event->kind != 'T' && event->kind != 'D')
         link->mark = event->end;
+#ifdef TALLY
+    tally_after(link, event);
+#endif
     return TAKEN;
 }
 
@@ -953,6 +1520,7 @@ int main(int argc, char **argv)
     put_end(&link);
     flush();
 #ifdef TALLY
+    tally_end(&link);
     print_tally(link.events);
 #endif
     return 0;

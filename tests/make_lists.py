@@ -1,6 +1,7 @@
 #!/usr/bin/env python3
-"""Writes event lists for the listing program, made up from a seed: sessions with times on and one beside the edge of every window, and, among their
-lines, ones that can't be read. Some lists go through every key byte, timing code, first byte and idle time, and any byte at every place of a line.
+"""Writes event lists for the listing program, made up from a seed: sessions with times on and one beside the edge of every window, a good part of them
+with cars (ISO 9141-2), and, among their lines, ones that can't be read. Some lists go through every key byte, timing code, first byte and idle time,
+all turns of a car's link, and any byte at every place of a line.
 
 Use: tests/make_lists.py SEED EVENTS DIR (some 300 files into DIR, which must not be there yet, with at least EVENTS events to be taken)
 """
@@ -9,7 +10,7 @@ import os
 import re
 import sys
 
-from link_reference import LATEST, Dice, Sessions, example, scripts
+from link_reference import CAR, CAR_KEYS, LATEST, TURNS, Cars, Dice, Sessions, example, pairs, scripts
 from reference import GOOD_KB1, NO_LIMIT
 
 READABLE = re.compile(rb"(A [0-9A-F]{2} T T|W T T|B [te] [0-9A-F]{2} T T|[TD] T)".replace(b" T", b" [0-9]{1,13}"))
@@ -21,10 +22,6 @@ LETTERS = b"AWBTDte0123456789ABCDEF  \n"
 
 class Talk(Sessions):
     """Sessions with more turns of timing, shorter frames, and refused times of every size."""
-
-    def __init__(self, seed):
-        super().__init__(seed)
-        self.address = 0x33
 
     def exchange(self):
         d = self.dice
@@ -110,11 +107,15 @@ class Sweep(Sessions):
         for value in range(256):
             self.connect(value)
             self.connect(0xEF, value)
+            for kb, _ in CAR_KEYS:
+                self.connect(value, kb)
+                self.connect(kb, value)
+                self.connect(kb, kb, value)
         return self
 
     def initializations(self):
         """Both with every value at every place, up to the byte that fails."""
-        for kind, script in (("A", "55EF8F70CC"), ("W", "8111F1810480F11103C1EF8FC4")):
+        for kind, script in (("A", "55EF8F70CC"), ("A", "550808F7CC"), ("A", "5594946BCC"), ("W", "8111F1810480F11103C1EF8FC4")):
             script = bytes.fromhex(script)
             for place in range(len(script)):
                 for value in range(256):
@@ -242,6 +243,84 @@ class Sweep(Sessions):
             self.hear("e", 0x54, 60_000)
 
 
+# ---- cars
+
+
+GAPS = 0, 19_999, 20_000, 20_001, 24_999, 25_000, 50_000, 50_001, 54_999, 55_000, 299_999, 300_000, 5_000_000, 5_000_001, 6_000_000
+
+
+def cars(kb):
+    """Lists that go through a car's link: sizes, heads, sides, what may come before an event and how long, events of every kind, and replies too close."""
+    s = Cars(kb)
+    s.sizes([*range(1, 31), 69, 133, 261, 267, 517])
+    s.heads(range(int(kb == 0x94), 256, 2))
+    s.other_sides(range(1, 13), (0, 5_000, 20_000, 20_001))
+    s.replies(GAPS[:10])
+    yield s
+    s = Cars(kb)
+    for before in s.befores():
+        some = before == "nothing" or before[1] in ("right", "over")
+        for gap in GAPS if some else (0, 20_000, 20_001, 50_001, 5_000_001):
+            for what in "teTDAWw":
+                s.meet(before, what, gap)
+    yield s
+    s = Cars(kb)
+    s.merged(range(256), [(5, 5)], [0])
+    s.merged((0x00, 0x80, 0x01, 0x40, 0x7F, 0xC0), ((5, 5), (5, 6), (6, 5), (6, 6), (7, 5)), (5_000, 20_000, 20_001))
+    s.data()
+    s.slow_starts()
+    yield s
+
+
+def both_editions():
+    """A car after a 14230 link and the other way, each ended in several ways: what one has set must not show in the other."""
+    s = Sweep()
+    for kb, _ in CAR_KEYS:
+        for codes in None, [0x00, 0x28, 0x20, 0x01, 0x00]:
+            for end in "82", "T", "D", "A":
+                s.session(0xD5, codes)
+                s.hear("t", 0x01, s.link.windows[2])
+                s.hear("e", 0x48, 0)
+                s.wait(20_001)
+                if end != "A":
+                    s.finish(end)
+                s.connect(kb, kb)
+                for gap in 54_999, 55_000:
+                    s.car_whole("t", [0x82], gap)
+                    s.car_whole("e", [0xC2], 25_000)
+                s.wait(300_000)
+                if end in "TD":
+                    s.call(end, 5_000_001 if end == "T" else 310_000)
+                s.hear("e", 0x48, 310_000)
+                s.call("A", 0 if end == "T" else 299_999)
+                s.session(0x67, codes)
+                s.probe(2)
+    return s
+
+
+def both_pairs():
+    """A car after one with the other key bytes, each ended in several ways: neither P2 min nor what ends a request must come from the one before."""
+    s = Sessions(0)
+    for end, wait in ("T", 5_000_001), ("D", 20_000), ("A", 0):
+        for kb, _ in CAR_KEYS:
+            s.connect(kb, kb)
+            for gap in 0, 20_000, 24_999, 25_000:
+                s.car_whole("t", [0x01, 0x0C], 55_000)
+                s.car_whole("e", [0x41, 0x0C], gap)
+            s.call(end, wait)
+    return s
+
+
+def held(kb):
+    """Lists that end 20 ms after a message that is right: it is still held."""
+    for side in "t", "e":
+        s = Cars(kb)
+        s.up()
+        s.say(side, s.faulty(side, "right"))
+        s.call("T", 20_000)
+        yield s
+
+
 # ---- lines
 
 
@@ -364,14 +443,22 @@ def text(lines):
     return b"".join(part + b"\n" for part in lines)
 
 
-def fixed_lists():
-    """Lists that every seed has."""
+def fixed_lists(reached):
+    """Lists that every seed has; and what they have reached."""
+
+    def lines_of(sessions):
+        reached.update(sessions.turns)
+        return text(map(line, sessions.events))
+
     own = text(map(line, example().events))
     yield from (b"", b"\n", b"\n\n\n", b"T 5", b"T 5\n", b" ", b"\0", b"T 5\n\n", b"T 5\r\n", b"T 4000000000000\nT 4000000000001\n")
     yield from (own, own[:-1], own + b"\n", own[:-1] + b"\r", b"\n" + own)
-    yield from (text(map(line, s.events)) for s in scripts())
+    yield from map(lines_of, scripts())
     for sweep in (Sweep.keys, Sweep.initializations, Sweep.first_bytes, Sweep.codes, Sweep.answers, Sweep.idle_times):
-        yield text(map(line, sweep(Sweep()).events))
+        yield lines_of(sweep(Sweep()))
+    for kb, _ in CAR_KEYS:
+        yield from map(lines_of, (*cars(kb), *held(kb)))
+    yield from map(lines_of, (pairs((CAR, 0x00, 0x11, 0x32, 0x34, 0xCC, 0xFF), (0x03, 0x00, 0x83, 0x80)), both_editions(), both_pairs()))
     yield text(every_byte())
     yield text(tails())
     yield from (one * 40_000 for one in (b"\n", b"W 0 0\n", b"B t 00 0 0\n"))  # more output than input: a buffer fills before its part is read
@@ -393,39 +480,43 @@ def noise(d):
     return bytes(d.pick(*LETTERS) for _ in range(n))
 
 
-def random_list(seed, n):
-    """A list of about n lines; and the number of its events, where all of them come whole."""
+def random_list(seed, n, reached):
+    """A list of about n lines; and the number of its events, where all of them come whole. Then what they have reached counts too."""
     d = Dice(seed)
     talk = Talk(seed + 1).run(n)
     if d.one_in(4):
         lines = mixed(d, talk.events, d.pick(2, 20), d.pick(3, 20, 100), d.pick(0, 0, 1, 3))
         return ended(d, text(lines)), 0
+    reached.update(talk.turns)
     lines = mixed(d, talk.events, d.pick(0, 100, 10, 2), 0, d.pick(0, 0, 0, 0, 1, 2))
     return text(lines)[: d.pick(None, None, -1)], talk.link.taken
 
 
-def lists(seed, least):
-    yield from fixed_lists()
+def lists(seed, least, reached):
+    yield from fixed_lists(reached)
     d = Dice(seed)
     seeds = (seed * 1_000_003 + i * 7919 for i in range(1, 10**9))
     yield from (noise(d) for _ in range(12))
     events = 0
     for i in range(250):
         n = d.pick(1, 2, 3, 5, 10, 30, 60) if i % 4 == 0 else 50 + d.below(max(least // 400, 200))
-        whole, taken = random_list(next(seeds), n)
+        whole, taken = random_list(next(seeds), n, reached)
         events += taken
         yield whole
     while events < least:
-        whole, taken = random_list(next(seeds), max(least // d.pick(10, 20, 30), 1000))
+        whole, taken = random_list(next(seeds), max(least // d.pick(10, 20, 30), 1000), reached)
         events += taken
         yield whole
 
 
 def main(seed, least, room):
     os.makedirs(room)
-    for i, whole in enumerate(lists(seed, least)):
+    reached = set()
+    for i, whole in enumerate(lists(seed, least, reached)):
         with open(os.path.join(room, f"list-{i:03}"), "wb") as f:
             f.write(whole)
+    if TURNS - reached:
+        sys.exit(f"the made-up lists do not reach {sorted(TURNS - reached, key=str)}")
 
 
 if __name__ == "__main__":

@@ -9,6 +9,8 @@ use Rattle.demands.proofs.IdleTimes.IdleLink.{idle-link}
 use Rattle.demands.proofs.Sessions.SessionExactly as session
 use Rattle.demands.proofs.Endings.StartingExactly as initializing
 use Rattle.demands.proofs.Accounts.Accounted as accounting
+use Rattle.demands.proofs.Sessions.CarMessages.{judged-by-bytes}
+use Rattle.demands.proofs.Histories.CarsFit.{fitting-of}
 
 pub beside : Beside
 beside = record {
@@ -17,12 +19,14 @@ beside = record {
   becomes-connected-exactly = starts.becomes-connected-exactly;
   connects-link = starts.connects-link;
   messages = message-reads;
+  car-messages = judged-by-bytes;
+  car-links = λ es u c. let x = fitting-of es .car u c in (x .windows, x .request);
   session-exactly = session.session-exactly;
   session-link = session.session-link;
   starting-exactly = initializing.starting-exactly;
   idle-link = λ es b d. idle-link es b (down-is d .0);
   idle = accounting.idle-none;
-  three-places = step-placed;
+  four-places = step-placed;
   none-lost = accounting.none-lost;
   listing-shows = accounting.listing-shows;
 }

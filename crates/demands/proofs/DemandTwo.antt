@@ -10,6 +10,7 @@ use Rattle.demands.specs.DemandTwo.{DemandTwo, Foundation}
 use Rattle.demands.specs.Ours.{ours}
 use Rattle.demands.specs.OurLink.{ourLink}
 use Rattle.demands.proofs.OneEvent.InOrder as order
+use Rattle.demands.proofs.OneEvent.ThreeAtMost as atMost
 use Rattle.demands.proofs.Histories.LentCounts as lending
 use Rattle.demands.proofs.OneEvent.FailedNames as failedNames
 use Rattle.demands.proofs.Endings.NoneHeld as noneHeld
@@ -70,6 +71,7 @@ proved = record {
   none-held = noneHeld.none-held;
   each-formed = each.each-formed;
   in-order = order.in-order;
+  three-at-most = atMost.three-at-most;
   lent-alike = lending.lent-alike;
   failed-names = failedNames.failed-names;
 }

@@ -10,3 +10,4 @@ pub mod BytesHeard
 pub mod BytesAsEvents
 pub mod LentCounts
 pub mod ReportsMade
+pub mod CarsFit

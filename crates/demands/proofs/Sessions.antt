@@ -1,5 +1,6 @@
 -- Demand 2 c: sessions, messages and the frames that report 1 names.
 pub mod MessageData
+pub mod CarMessages
 pub mod AfterFirstByte
 pub mod SessionLasts
 pub mod SessionEnds

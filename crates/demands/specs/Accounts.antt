@@ -87,5 +87,5 @@ pub record Accounted (m : Machine) (es : Log) : Type 0 where
   pub counts : after m es .counts ≡ countsOf (heardIn es) (reportsOf m es)
   -- so many bytes the link says that it holds
   pub held : heldBy m es ≡ heldIn m es
-  -- "At most three per event."
-  pub three : (e : Event) → length (reportsTo m es e) ≤ 3
+  -- "one event may now give four reports" (document 02, "Five"; in a session of 14230 and outside sessions no event gives more than three: `three-at-most`)
+  pub four : (e : Event) → length (reportsTo m es e) ≤ 4

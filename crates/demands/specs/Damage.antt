@@ -1,10 +1,11 @@
--- Why bytes are reported as damage, told by the values and sides of the bytes that report 2 names, from the first one on, and by KB1 (document 01,
--- "Connected."). Stated of any link in DemandTwo.antt; that it holds of ours is proved in proofs/Damage/DamageReasons.antt.
+-- Why bytes are reported as damage, told by the values and sides of the bytes that report 2 names, from the first one on, and by the key bytes (document 01,
+-- "Connected."; document 02, "Five"). Stated of any link in DemandTwo.antt; that it holds of ours is proved in proofs/Damage/DamageReasons.antt.
 -- Assumes nothing.
 use Prim.Native.Nat.{ℕ, _+_, _/_, _%_, _<_}
-use mathlib.Core.Bool.{Bool, not, _&&_}
+use mathlib.Core.Bool.{Bool, true, not, _&&_}
 use mathlib.Core.List.{List, [], _∷_, _++_}
 use mathlib.Core.Path.{_≡_}
+use mathlib.Core.Logic.{_⊎_}
 use lib.Dec.{eqb, leb}
 use lib.ListN.{length}
 use Rattle.base.specs.Choice.{if_then_else_}
@@ -15,12 +16,13 @@ use Rattle.keys.specs.declared.Pair.{Pair}
 use Rattle.frame.specs.Layout.{total}
 use Rattle.events.specs.Events.{sameSide}
 use Rattle.events.specs.declared.Side.{Side}
+use Rattle.events.specs.declared.Kind.the-variants.{Byte}
 use Rattle.events.specs.declared.Event.{Event}
 use Rattle.reports.specs.declared.Report.{Report}
-use Rattle.demands.specs.Logs.{Log, _▷_, bytesOf, takenOf}
+use Rattle.demands.specs.Logs.{Log, _▷_, bytesOf, valuesOf, takenOf}
 use Rattle.demands.specs.Refusals.{Not}
 use Rattle.demands.specs.Frames.{lowSix, addressesIn, sizeSaid}
-use Rattle.demands.specs.Editions.{reasonAtEnd}
+use Rattle.demands.specs.Editions.{ofCar, reasonAtEnd}
 use Rattle.demands.specs.Histories.{Machine}
 use Rattle.demands.specs.Accounts.{bytesNamed}
 use Rattle.demands.specs.Sessions.{Turns, gapBefore, EarlyAt, StrayAt}
@@ -53,11 +55,6 @@ laterFault side s b =
     if isLengthByte s && eqb (b .value) 0 then wrongLength else
     if isChecksum s && not (eqb (b .value) (total s % 256)) then wrongSum else noReason
 
--- the values of bytes
-unfoldable pub valuesOf : List Event → List ℕ
-valuesOf [] = []
-valuesOf (b ∷ bs) = b .value ∷ valuesOf bs
-
 -- a byte after those before it, none of which fails
 unfoldable pub faultAt : ℕ → List Event → Event → ℕ
 faultAt kb1 [] b = firstFault kb1 (b .value)
@@ -69,18 +66,27 @@ reasonBehind kb1 before [] = noReason
 reasonBehind kb1 before (b ∷ bs) =
     if eqb (faultAt kb1 before b) noReason then reasonBehind kb1 (before ++ (b ∷ [])) bs else faultAt kb1 before b
 
-abbrev pub reasonIn : Pair → List Event → ℕ
-reasonIn pair bs = reasonBehind (pair .kb1) [] bs
+-- of a car's bytes only one fault is settled as they come: "the other side's byte is still reason 7 at once"
+unfoldable pub ofOneSide : List Event → Bool
+ofOneSide [] = true
+ofOneSide (b ∷ []) = true
+ofOneSide (b ∷ c ∷ bs) = sameSide (c .side) (b .side) && ofOneSide (c ∷ bs)
 
--- a report's reason, where its bytes give the reason k, and the reason atEnd if they end as a message, and from the mark to the event's start there is such
--- a gap
-pub record GoesBy (k atEnd : ℕ) (gap : Micros) (r : Report) : Type 0 where
+unfoldable pub reasonIn : Pair → List Event → ℕ
+reasonIn pair bs =
+    if ofCar pair then (if ofOneSide bs then noReason else otherSide) else
+    reasonBehind (pair .kb1) [] bs
+
+-- a report's reason, where its bytes give the reason k, and the reason atEnd if they end as a message, and from the mark to the start of the report's event e there
+-- is such a gap
+pub record GoesBy (k atEnd : ℕ) (e : Event) (gap : Micros) (r : Report) : Type 0 where
   -- "With damage being skipped: report 2, its reason.", "damage with its reason"
   pub wrong : Not (k ≡ noReason) → r .reason ≡ k
-  -- "20 ms passed since the mark with a message held: report 2, reason 1."
-  pub ended : k ≡ noReason → 20_000 < gap .0 → r .reason ≡ atEnd
+  -- "20 ms passed since the mark with a message held: report 2, reason 1."; a car's message is judged then, and a unit's byte that ends it has it "judged as after
+  -- the gap"
+  pub ended : k ≡ noReason → (20_000 < gap .0) ⊎ (e .kind ≡ Byte) → r .reason ≡ atEnd
   -- "A, W or D then close what is open: a held message as report 2 reason 2"
-  pub closed : k ≡ noReason → Not (20_000 < gap .0) → r .reason ≡ closed
+  pub closed : k ≡ noReason → Not (20_000 < gap .0) → Not (e .kind ≡ Byte) → r .reason ≡ closed
 
 -- A REPORT 2 of the event e after es: its first byte, which was early or stray exactly if the reason is 3 or 4; and where it was neither, the reason goes
 -- by the bytes that the report names, under the session's key bytes
@@ -89,4 +95,4 @@ pub record Damaged (m : Machine) (es : Log) (e : Event) (r : Report) : Type 0 wh
   pub otherwise : Not (EarlyAt m (turns .first .before) (turns .first .byte) (turns .first .talk))
       → Not (StrayAt m (turns .first .before) (turns .first .byte) (turns .first .talk))
       → let bytes = bytesNamed (bytesOf (takenOf es)) r in
-      GoesBy (reasonIn (turns .first .talk .pair) bytes) (reasonAtEnd (turns .first .talk .pair) bytes) (gapBefore (takenOf es) e) r
+      GoesBy (reasonIn (turns .first .talk .pair) bytes) (reasonAtEnd (turns .first .talk .pair) bytes) e (gapBefore (takenOf es) e) r

@@ -3,7 +3,7 @@
 -- 01's rules give."
 -- Assumes nothing.
 use Prim.Native.Nat.{ℕ, _+_, _≤_, _<_}
-use mathlib.Core.Bool.{_&&_}
+use mathlib.Core.Bool.{_&&_, false}
 use mathlib.Core.List.{List}
 use mathlib.Core.Logic.{_↔_, _⊎_}
 use mathlib.Core.Path.{_≡_}
@@ -41,7 +41,8 @@ use Rattle.demands.specs.Failing.{UnderWay, Fails}
 use Rattle.demands.specs.Damage.{Damaged}
 use Rattle.demands.specs.Orders.{InOrder, NamesFailed}
 use Rattle.demands.specs.Endings.{Starter, NotIdle, WrongLow, Starting, AnswersStop, Downs}
-use Rattle.demands.specs.Messages.{EndsInFrame, ReportsFrame}
+use Rattle.demands.specs.Messages.{EndsInFrame, EndsRight, Interrupts, ReportsFrame}
+use Rattle.demands.specs.Editions.{ofCar}
 
 -- ---- a. KEY BYTES, FRAMES, TIMING CODES: what the crates below have proved, in one place. (These speak of `build`, `read` and the codes by their
 -- definitions, and of no link.)
@@ -84,15 +85,16 @@ pub record DemandTwo (m : Machine) : Type 0 where
   -- That report is the only one of its event and names all bytes of the initialization and no other; its key bytes are good.
   pub connects-names : (es : Log) (e : Event) → InBytes es → numberAfter (takenOf es) e ≡ taken → (c : Connects m (takenOf es) e)
       → Connected (takenOf es) e c (reportsTo m es e)
-  -- ---- c. WHAT THE LINK REPORTS AS 1 is a frame that `read` takes, and its timing is the one that the frames say
+  -- ---- c. WHAT THE LINK REPORTS AS 1 is a frame of the session's edition, and its timing is the one that the frames say
   -- A session of the history lasts from a report 3 until a report 7, with the key bytes among the bytes that the report 3 names. Its windows are KB1's set,
   -- the allowed codes of the latest tester frame, or as before, as `windowsIn` reads it off the session's frames; the reply that may come is the one that its
   -- last report leaves.
-  -- Each report 1 is made in a session and names bytes that `read` takes as a frame under the session's key bytes.
+  -- Each report 1 is made in a session and names bytes that are a frame under the session's key bytes: such as `read` takes, or a car's message without a fault.
   pub frames-read : (es : Log) (e : Event) (r : Report) → InBytes (es ▷ e) → Among r (reportsTo m es e) → r .number ≡ frameReport → Reads m es e r
-  -- And the other way round: a report 1 names these bytes exactly if the event is the byte that ends a message of the session in them. A message goes from
-  -- a first byte that is neither early nor stray over bytes of the same side, no more than 20 ms apart, until `read` takes what was heard of it. Which
-  -- byte is a first one, and whether it is early or stray, is said by the events before it and their reports, and by nothing that is reported of it.
+  -- And the other way round: a report 1 names these bytes exactly if the event is the byte that ends a message of the session in them, or, of a car, if the message
+  -- is these bytes and over. A message goes from a first byte that is neither early nor stray over bytes of the same side, no more than 20 ms apart, until `read`
+  -- takes what was heard of it (a car's goes on). Which byte is a first one, and whether it is early or stray, is said by the events before it and the reports
+  -- of bytes before it, and by nothing that is reported of it.
   pub frames-exactly : (es : Log) (e : Event) (bytes : List ℕ) → InBytes (es ▷ e)
       → ReportsFrame (heardIn (es ▷ e)) (reportsTo m es e) bytes ↔ EndsInFrame m es e bytes
   -- ---- d. DAMAGE, STRAY AND EARLY
@@ -104,16 +106,18 @@ pub record DemandTwo (m : Machine) : Type 0 where
   pub opens-first : (before : Log) (b : Event) (t : Talk) → InBytes (before ▷ b) → OpensIn m before b t → (es : Log) → Begins (before ▷ b) es → InBytes es
       → (r : Report) → Among r (reportsOf m es) → r .first ≤ length (heardIn before) → length (heardIn before) < r .first + r .bytes
       → r .first ≡ length (heardIn before)
-  -- Report 2, in a session, exactly if something is held and either 20 ms have passed since the mark or A, W or D comes; ..
+  -- Report 2, in a session, exactly if something is held and 20 ms have passed since the mark, or A, W or D comes, or the unit's byte ends the tester's message
+  -- under 94 94; and it does not end in a frame, as a car's right message does once it is over; ..
   pub damage-exactly : (es : Log) (e : Event) (t : Talk) → InBytes es → Session m es t
       → Says damageReport (reportsTo m es e)
-      ↔ ((numberAfter (takenOf es) e ≡ taken) × (0 < heldIn m es) × ((20_000 < gapBefore (takenOf es) e .0) ⊎ Starter e ⊎ (e .kind ≡ Drop)))
+      ↔ ((numberAfter (takenOf es) e ≡ taken) × (0 < heldIn m es) × Not (EndsRight m es e)
+      × ((20_000 < gapBefore (takenOf es) e .0) ⊎ Starter e ⊎ (e .kind ≡ Drop) ⊎ Interrupts m es e))
   -- .. and it names all that is held before the event, up to the last byte heard.
   pub damage-names : (es : Log) (e : Event) (r : Report) → Among r (reportsTo m es e) → r .number ≡ damageReport
       → (r .bytes ≡ heldIn m es) × (r .first + r .bytes ≡ length (heardIn es))
   -- Its reason is 3 or 4 exactly if its first byte was early or stray. Where it was neither, the reason is the one that the bytes named give under the
-  -- session's KB1, by the first of them that fails (5, 6 or 8 the first byte, 7, 8 or 9 a later one); and where none fails, a message was held, and the
-  -- reason is 1 if 20 ms have passed since the mark, and else 2.
+  -- session's key bytes, by the first of them that fails (5, 6 or 8 the first byte, 7, 8 or 9 a later one; of a car only 7); and where none fails, a message was
+  -- held, and the reason is 1 (of a car 6, 8 or 9, its fault) if 20 ms have passed since the mark or a byte ends it, and else 2.
   pub damage-reasons : (es : Log) (e : Event) (r : Report) → InBytes (es ▷ e) → Among r (reportsTo m es e) → r .number ≡ damageReport
       → Damaged m es e r
   -- Outside a session there is neither a report 1 nor a report 2.
@@ -128,7 +132,7 @@ pub record DemandTwo (m : Machine) : Type 0 where
   -- Report 6, in a session, exactly if a first reply is awaited and P2 max has passed.
   pub no-reply-exactly : (es : Log) (e : Event) (t : Talk) → InBytes es → Session m es t
       → Says noReplyReport (reportsTo m es e)
-      ↔ ((numberAfter (takenOf es) e ≡ taken) × NoReply t (heldIn m es) (gapBefore (takenOf es) e))
+      ↔ ((numberAfter (takenOf es) e ≡ taken) × NoReply m es e t)
   -- Outside a session there is neither.
   pub only-in-session : (es : Log) (e : Event) → InBytes es
       → Says noReplyReport (reportsTo m es e) ⊎ Says downReport (reportsTo m es e) → SomeSession m es
@@ -166,6 +170,8 @@ pub record DemandTwo (m : Machine) : Type 0 where
   -- ---- f. THE REPORTS OF ONE EVENT
   -- They come in the order of the rules, and no rule reports twice.
   pub in-order : (es : Log) (e : Event) → InOrder 0 (reportsTo m es e)
+  -- There are three at most, unless a car's session lasts. (Then there may be four: `Accounted`.)
+  pub three-at-most : (es : Log) (e : Event) → InBytes es → ((t : Talk) → Session m es t → ofCar (t .pair) ≡ false) → length (reportsTo m es e) ≤ 3
   -- They go by the events alone, and by no counts: an event that is taken with other counts lent is reported as it is with those of the history, and leaves
   -- the same link. ("indexes come from the link")
   pub lent-alike : (es : Log) (c : Counts) (e : Event) → answerWith m es c e .no ≡ taken

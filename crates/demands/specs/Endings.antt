@@ -17,8 +17,7 @@ use Rattle.demands.specs.Refusals.{Not}
 use Rattle.demands.specs.Histories.{Machine, reportsTo, Says, Tells}
 use Rattle.demands.specs.Idle.{idleUntil}
 use Rattle.demands.specs.Starts.{Low}
-use Rattle.demands.specs.Accounts.{heldIn}
-use Rattle.demands.specs.Sessions.{stops, pendingIn, Talk, gapBefore, IdleOver}
+use Rattle.demands.specs.Sessions.{stops, pendingIn, Talk, IdleOver}
 use Rattle.demands.specs.Messages.{EndsInFrame}
 
 -- A or W
@@ -54,8 +53,8 @@ pub record AnswersStop (m : Machine) (t : Talk) (es : Log) (e : Event) : Type 0 
 -- 1 is for a stop that the unit answers: `stops-exactly`.)
 pub record Downs (m : Machine) (es : Log) (e : Event) (t : Talk) : Type 0 where
   pub idle : Tells downReport idleOver (reportsTo m es e)
-      ↔ ((numberAfter (takenOf es) e ≡ taken) × IdleOver t (heldIn m es) (gapBefore (takenOf es) e))
+      ↔ ((numberAfter (takenOf es) e ≡ taken) × IdleOver m es e t)
   pub dropped : Tells downReport dropped (reportsTo m es e)
-      ↔ ((numberAfter (takenOf es) e ≡ taken) × (e .kind ≡ Drop) × Not (IdleOver t (heldIn m es) (gapBefore (takenOf es) e)))
+      ↔ ((numberAfter (takenOf es) e ≡ taken) × (e .kind ≡ Drop) × Not (IdleOver m es e t))
   pub restarted : Tells downReport restarted (reportsTo m es e)
-      ↔ ((numberAfter (takenOf es) e ≡ taken) × Starter e × Not (IdleOver t (heldIn m es) (gapBefore (takenOf es) e)))
+      ↔ ((numberAfter (takenOf es) e ≡ taken) × Starter e × Not (IdleOver m es e t))

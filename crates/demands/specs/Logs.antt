@@ -9,6 +9,8 @@ use Rattle.base.specs.Numbers.{taken}
 use Rattle.units.specs.Units.{micros}
 use Rattle.units.specs.declared.Micros.{Micros}
 use Rattle.events.specs.Events.{isByte, marks, refusal}
+use Rattle.events.specs.declared.Side.{Side}
+use Rattle.events.specs.declared.Side.the-variants.{Nobody}
 use Rattle.events.specs.declared.Event.{Event}
 use Rattle.reports.specs.Counting.{most}
 
@@ -46,6 +48,17 @@ heardOf (log ▷ e) = heardOf log ++ (if isByte (e .kind) then e .value ∷ [] e
 unfoldable pub bytesOf : Log → List Event
 bytesOf none = []
 bytesOf (log ▷ e) = bytesOf log ++ (if isByte (e .kind) then e ∷ [] else [])
+
+-- the values of bytes
+unfoldable pub valuesOf : List Event → List ℕ
+valuesOf [] = []
+valuesOf (b ∷ bs) = b .value ∷ valuesOf bs
+
+-- whose the last of these bytes is
+unfoldable pub lastSide : List Event → Side
+lastSide [] = Nobody
+lastSide (b ∷ []) = b .side
+lastSide (b ∷ c ∷ bs) = lastSide (c ∷ bs)
 
 -- THE EVENTS TAKEN. The number of an event after events taken: its conditions are those of demand 1, at the clock and the number of those events.
 -- (Lent counts that only the link changes are never above the number that 4 names: `never-above`.)

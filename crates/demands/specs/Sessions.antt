@@ -1,6 +1,6 @@
 -- A connected link's session, told by the history: its key bytes, the frames reported in it, the windows in force and the reply that may come; what time
 -- ends in it; and the first byte of a message, told by the events before it.
--- (document 01, "Connected." and "By their data")
+-- (document 01, "Connected." and "By their data"; document 02, "Five")
 -- Assumes nothing.
 use Prim.Native.Nat.{ℕ, suc, _-_, _<_}
 use mathlib.Core.Bool.{Bool, true, false, _&&_, _||_}
@@ -22,17 +22,17 @@ use Rattle.timing.specs.declared.Codes.{Codes}
 use Rattle.frame.specs.Read.{dataOf}
 use Rattle.events.specs.Events.{isTester}
 use Rattle.events.specs.declared.Side.{Side}
-use Rattle.events.specs.declared.Side.the-variants.{Tester, Unit, Nobody}
+use Rattle.events.specs.declared.Side.the-variants.{Tester, Unit}
 use Rattle.events.specs.declared.Kind.the-variants.{Byte}
 use Rattle.events.specs.declared.Event.{Event}
 use Rattle.talk.specs.Talk.{isFirst, ifAllowed}
 use Rattle.talk.specs.declared.Reply.{Reply}
 use Rattle.talk.specs.declared.Reply.the-variants.{Never, First, Further}
 use Rattle.reports.specs.declared.Report.{Report}
-use Rattle.demands.specs.Logs.{Log, _▷_, markOf, heardOf, bytesOf, heardIn, numberAfter, takenOf, Begins}
+use Rattle.demands.specs.Logs.{Log, _▷_, markOf, heardOf, bytesOf, lastSide, heardIn, numberAfter, takenOf, Begins}
 use Rattle.demands.specs.Refusals.{Not}
-use Rattle.demands.specs.Editions.{isFrame}
-use Rattle.demands.specs.Histories.{Machine, reportsTo, Says, Among}
+use Rattle.demands.specs.Editions.{ofCar, ofQuickCar, isFrame}
+use Rattle.demands.specs.Histories.{Machine, reportsTo, isAmong, Says, Among}
 use Rattle.demands.specs.Accounts.{namedBy, bytesNamed, heldIn}
 
 -- ---- the frames of a session, oldest first: whose each is, and its bytes
@@ -68,7 +68,7 @@ unfoldable pub codesIn : List ℕ → Codes
 codesIn q = record { p2min = getD q 2 0; p2max = getD q 3 0; p3min = getD q 4 0; p3max = getD q 5 0; p4min = getD q 6 0 }
 
 -- "'After' means that it is the latest tester frame. Each takes effect once for its request.": the data of the latest tester frame, and no data (which
--- no frame has) before the first one and once it has taken effect.
+-- no frame has) before the first one and once it has taken effect. "The rules on 82, 83 .. are for 14230 links only": a car's frames have no data.
 unfoldable pub pendingIn : Pair → Frames → List ℕ
 pendingIn pair nothing = []
 pendingIn pair (fs ▸ f) =
@@ -77,7 +77,7 @@ pendingIn pair (fs ▸ f) =
     if isTester (f .side) then a else
     if stops q a || resets q a || retimes q a then [] else q
 
--- THE WINDOWS IN FORCE. "Timing starts at the set KB1 names." A unit frame may change it: "KB1's set", or "those codes from this frame's end, if
+-- THE WINDOWS IN FORCE. "Timing starts at the set KB1 names.", or at a car's, where it stays. A unit frame may change it: "KB1's set", or "those codes from this frame's end, if
 -- allowed, else no change".
 unfoldable pub windowsIn : Pair → Frames → Windows
 windowsIn pair nothing = setOf pair
@@ -112,23 +112,21 @@ secondKey bytes = getD bytes (suc (firstKeyAt bytes)) 0
 abbrev pub openedBy : List ℕ → Talk
 openedBy bytes = opening (pairOf (firstKey bytes) (secondKey bytes))
 
--- whose the last of these bytes is
-unfoldable pub lastSide : List Event → Side
-lastSide [] = Nobody
-lastSide (b ∷ []) = b .side
-lastSide (b ∷ c ∷ bs) = lastSide (c ∷ bs)
-
 -- the frame that a report 1 names, by the events taken up to the report's: whose it is, its bytes say (they all come from one side)
 abbrev pub frameNamed : Log → Report → Frame
 frameNamed log r = record { side = lastSide (bytesNamed (bytesOf log) r); bytes = namedBy (heardOf log) r }
 
--- A report of it. 1: one frame more; "A tester frame awaits a first reply; a unit frame allows further ones." 2 and 6: "no reply is expected".
+-- the reply that may come after a frame: "A tester frame awaits a first reply; a unit frame allows further ones."
+unfoldable pub replyTo : Side → Reply
+replyTo side = if isTester side then First else Further
+
+-- A report of it. 1: one frame more, and its reply. 2 and 6: "no reply is expected".
 unfoldable pub afterReport : Talk → Log → Report → Talk
 afterReport t log r =
     if eqb (r .number) frameReport then record {
       pair = t .pair;
       frames = t .frames ▸ frameNamed log r;
-      reply = if isTester (frameNamed log r .side) then First else Further;
+      reply = replyTo (frameNamed log r .side);
     } else
     if eqb (r .number) damageReport || eqb (r .number) noReplyReport then record { pair = t .pair; frames = t .frames; reply = Never } else t
 
@@ -153,41 +151,51 @@ pub record SomeSession (m : Machine) (es : Log) : Type 0 where
 abbrev pub inForce : Talk → Windows
 inForce t = windowsIn (t .pair) (t .frames)
 
--- ---- a report 1: the session that its event came in, and bytes that are a frame under the session's key bytes
+-- ---- a report 1: the session that its event came in, and bytes that are a frame of their side under the session's key bytes
 pub record Reads (m : Machine) (es : Log) (e : Event) (r : Report) : Type 0 where
   pub talk : Talk
   pub session : Session m es talk
-  pub reads : isFrame (talk .pair) (namedBy (heardIn (es ▷ e)) r) ≡ true
+  pub reads : isFrame (talk .pair) (frameNamed (takenOf (es ▷ e)) r .side) (namedBy (heardIn (es ▷ e)) r) ≡ true
 
--- ---- in a session, with so many bytes held and so long a gap from the mark to the event's start
+-- ---- in a session, so long a gap from the mark to the event's start
 abbrev pub gapBefore : Log → Event → Micros
 gapBefore log b = gapOf (markOf log) (b .start)
 
--- Time passes first. What was held for more than 20 ms has ended, and "After either, no reply is expected": the reply that may come once it has ended
-unfoldable pub replyOnceEnded : Talk → ℕ → Reply
-replyOnceEnded t held = if eqb held 0 then t .reply else Never
+-- Time passes first. What was held for more than 20 ms has ended, and "After either, no reply is expected"; but a car's message may have ended in a frame, which
+-- the event reports (`frames-exactly` says when, by the events before). The reply that may come once it has ended, in the session t of es:
+unfoldable pub replyOnceEnded : Machine → Log → Event → Talk → Reply
+replyOnceEnded m es e t =
+    if eqb (heldIn m es) 0 then t .reply else
+    if ofCar (t .pair) && isAmong frameReport (reportsTo m es e) then replyTo (lastSide (bytesOf (takenOf es))) else Never
 
 -- "First reply awaited and P2 max passed: report 6". (What is held ends before P2 max passes.)
-abbrev pub NoReply : Talk → ℕ → Micros → Type 0
-NoReply t held gap = (replyOnceEnded t held ≡ First) × (isPassed (inForce t .p2max) gap ≡ true)
+abbrev pub NoReply : Machine → Log → Event → Talk → Type 0
+NoReply m es e t = (replyOnceEnded m es e t ≡ First) × (isPassed (inForce t .p2max) (gapBefore (takenOf es) e) ≡ true)
 
 -- "Then, connected, no first reply awaited, P3 max passed: report 7 reason 2, down." Where one was awaited, P2 max has passed too.
-abbrev pub IdleOver : Talk → ℕ → Micros → Type 0
-IdleOver t held gap = (isPassed (inForce t .p3max) gap ≡ true) × (replyOnceEnded t held ≡ First → isPassed (inForce t .p2max) gap ≡ true)
+abbrev pub IdleOver : Machine → Log → Event → Talk → Type 0
+IdleOver m es e t =
+    let gap = gapBefore (takenOf es) e in
+    (isPassed (inForce t .p3max) gap ≡ true) × (replyOnceEnded m es e t ≡ First → isPassed (inForce t .p2max) gap ≡ true)
 
--- ---- the first byte of a message: all of it is said by the events before the byte and their reports, whatever is reported of the byte itself
+-- ---- the first byte of a message: all of it is said by the events before the byte, their reports, and what its event reports of the bytes before it, whatever is
+-- reported of the byte itself
 -- A BYTE OPENS A MESSAGE, or damage ("First byte of a message"), in the session t of the events before it: it is taken, nothing was held before it or
--- what was held has ended ("20 ms passed since the mark"), and the session has not.
+-- what was held has ended ("20 ms passed since the mark"; "under 94 94 a unit byte after a held tester message ends it too", so that after it no other byte is
+-- held), and the session has not.
 pub record OpensIn (m : Machine) (before : Log) (b : Event) (t : Talk) : Type 0 where
   pub session : Session m before t
   pub kind : b .kind ≡ Byte
   pub number : numberAfter (takenOf before) b ≡ taken
   pub alone : (heldIn m before ≡ 0) ⊎ (20_000 < gapBefore (takenOf before) b .0)
-  pub lasts : Not (IdleOver t (heldIn m before) (gapBefore (takenOf before) b))
+      ⊎ ((ofQuickCar (t .pair) ≡ true) × (b .side ≡ Unit) × (heldIn m (before ▷ b) ≡ 1))
+  pub lasts : Not (IdleOver m before b t)
 
 -- the reply that may come as the byte does: a first reply that is awaited as P2 max passes is not awaited any more ("no reply is expected")
-unfoldable pub replyAt : Talk → ℕ → Micros → Reply
-replyAt t held gap = if isFirst (replyOnceEnded t held) && isPassed (inForce t .p2max) gap then Never else replyOnceEnded t held
+unfoldable pub replyAt : Machine → Log → Event → Talk → Reply
+replyAt m before b t =
+    let reply = replyOnceEnded m before b t in
+    if isFirst reply && isPassed (inForce t .p2max) (gapBefore (takenOf before) b) then Never else reply
 
 -- whether it breaks the windows in force, with this reply that may come
 -- "From the unit, stray (4) unless a first or further reply may come and the gap is at most P2 max"
@@ -204,12 +212,12 @@ Early t reply gap b =
 abbrev pub StrayAt : Machine → Log → Event → Talk → Type 0
 StrayAt m before b t =
     let gap = gapBefore (takenOf before) b in
-    Stray t (replyAt t (heldIn m before) gap) gap b
+    Stray t (replyAt m before b t) gap b
 
 abbrev pub EarlyAt : Machine → Log → Event → Talk → Type 0
 EarlyAt m before b t =
     let gap = gapBefore (takenOf before) b in
-    Early t (replyAt t (heldIn m before) gap) gap b
+    Early t (replyAt m before b t) gap b
 
 -- the first of the bytes that a report names, in the history: the events before it, and their session
 pub record FirstByte (m : Machine) (es : Log) (r : Report) : Type 0 where

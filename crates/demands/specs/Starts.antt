@@ -9,7 +9,8 @@ use mathlib.Core.Logic.{_⊎_}
 use lib.Dec.{eqb}
 use Rattle.base.specs.Choice.{if_then_else_}
 use Rattle.units.specs.declared.Micros.{Micros}
-use Rattle.keys.specs.Keys.{goodPair, pairOf, isGood}
+use Rattle.keys.specs.Keys.{pairOf, isGood}
+use Rattle.keys.specs.Editions.{isSlowPair}
 use Rattle.keys.specs.declared.Pair.{Pair}
 use Rattle.events.specs.declared.Kind.{Kind}
 use Rattle.events.specs.declared.Kind.the-variants.{Address, WakeUp, Byte, Tick, Drop, Other}
@@ -29,8 +30,8 @@ pub data Value : Type 0 where
   any : Value
   only : ℕ → Value
   oneOf : List ℕ → Value
-  -- a KB2 that makes a good pair with this KB1
-  pairedWith : ℕ → Value
+  -- a KB2 that makes a pair with this KB1 which is right in a slow start from this address
+  pairedWith : ℕ → ℕ → Value
   -- this checksum, after these key bytes, which are a good pair: "checksum and pair both at the checksum byte"
   sumBehind : ℕ → Pair → Value
 
@@ -42,7 +43,7 @@ abbrev pub Fits : Value → ℕ → Type 0
 Fits any v = Always
 Fits (only x) v = v ≡ x
 Fits (oneOf xs) v = IsOne xs v
-Fits (pairedWith kb1) v = goodPair kb1 v ≡ true
+Fits (pairedWith address kb1) v = isSlowPair address (pairOf kb1 v) ≡ true
 Fits (sumBehind sum pair) v = (v ≡ sum) × (isGood pair ≡ true)
 
 -- whose byte is due there, how early and how late it may start, which values fit, and whether it is the initialization's last
@@ -72,9 +73,9 @@ sync = place Unit 60_000 300_000 (only 0x55)
 abbrev pub keyOne : Place
 keyOne = place Unit 5_000 20_000 any
 
--- "KB2 after 0 to 20, pair good"
-abbrev pub keyTwo : ℕ → Place
-keyTwo kb1 = place Unit 0 20_000 (pairedWith kb1)
+-- "KB2 after 0 to 20, pair good", or, after address 33, 08 08 or 94 94 (document 02, "Five")
+abbrev pub keyTwo : ℕ → ℕ → Place
+keyTwo address kb1 = place Unit 0 20_000 (pairedWith address kb1)
 
 -- "tester 255 minus KB2 after 25 to 50"
 abbrev pub keyBack : ℕ → Place
@@ -86,7 +87,7 @@ addressBack address = lastPlace Unit 25_000 50_000 (only (255 - address))
 
 -- A GOOD SLOW START from the address event a, with its KB1 and KB2: five bytes, each right at its place. "From the address", and then from byte to byte.
 pub data SlowStart (a : Event) : Pair → Log → Type 0 where
-  slow : {s one two back done : Event} → a .kind ≡ Address → Right sync (a .end) s → Right keyOne (s .end) one → Right (keyTwo (one .value)) (one .end) two
+  slow : {s one two back done : Event} → a .kind ≡ Address → Right sync (a .end) s → Right keyOne (s .end) one → Right (keyTwo (a .value) (one .value)) (one .end) two
       → Right (keyBack (two .value)) (two .end) back → Right (addressBack (a .value)) (back .end) done
       → SlowStart a (pairOf (one .value) (two .value)) (none ▷ s ▷ one ▷ two ▷ back ▷ done)
 
@@ -140,7 +141,7 @@ pub data FastStart (w : Event) : Pair → Log → Type 0 where
 unfoldable pub dueSlow : ℕ → List Event → Place
 dueSlow address [] = sync
 dueSlow address (s ∷ []) = keyOne
-dueSlow address (s ∷ one ∷ []) = keyTwo (one .value)
+dueSlow address (s ∷ one ∷ []) = keyTwo address (one .value)
 dueSlow address (s ∷ one ∷ two ∷ []) = keyBack (two .value)
 dueSlow address (s ∷ one ∷ two ∷ back ∷ bs) = addressBack address
 

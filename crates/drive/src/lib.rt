@@ -65,6 +65,7 @@ fn mix_reports(digest: u32, rs: Reports) -> u32
     let a = rs.a;
     let b = rs.b;
     let c = rs.c;
+    let d = rs.d;
     if rs.n == 0 {
         return digest;
     }
@@ -74,7 +75,10 @@ fn mix_reports(digest: u32, rs: Reports) -> u32
     if rs.n == 2 {
         return mix_report(mix_report(digest, a), b);
     }
-    mix_report(mix_report(mix_report(digest, a), b), c)
+    if rs.n == 3 {
+        return mix_report(mix_report(mix_report(digest, a), b), c);
+    }
+    mix_report(mix_report(mix_report(mix_report(digest, a), b), c), d)
 }
 
 // A fresh link.

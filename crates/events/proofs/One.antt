@@ -4,7 +4,7 @@ use mathlib.Core.Bool.{Bool}
 use Prim.Native.Nat.{ℕ}
 use Rattle.base.proofs.One.{Only, only}
 use Rattle.units.specs.declared.Micros.{Micros}
-use Rattle.events.specs.Events.{kindBy, sideBy, isByte, marks, isTester, sameSide, refusal}
+use Rattle.events.specs.Events.{kindBy, sideBy, isByte, marks, isTester, isUnit, sameSide, refusal}
 use Rattle.events.specs.declared.Kind.{Kind}
 use Rattle.events.specs.declared.Side.{Side}
 use Rattle.events.specs.declared.Event.{Event}
@@ -23,6 +23,9 @@ is-marking kind = only (marks kind)
 
 pub is-tester : (side : Side) → Only (λ (r : Bool). r ≡ isTester side)
 is-tester side = only (isTester side)
+
+pub is-unit : (side : Side) → Only (λ (r : Bool). r ≡ isUnit side)
+is-unit side = only (isUnit side)
 
 pub same-side : (a b : Side) → Only (λ (r : Bool). r ≡ sameSide a b)
 same-side a b = only (sameSide a b)

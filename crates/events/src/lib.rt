@@ -123,7 +123,7 @@ pub fn is_tester(side: Side) -> bool
 }
 
 // Whether a side is the unit's.
-fn is_unit(side: Side) -> bool
+pub fn is_unit(side: Side) -> bool
     ensures { λ r. ⌜ r ≡ isUnit side ⌝ }
 {
     match side {

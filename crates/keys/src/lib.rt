@@ -1,6 +1,7 @@
-// Key bytes: which pairs are good, and what KB1 announces.
+// Key bytes: which pairs are good, what KB1 announces, and which edition a pair chooses.
 ghost use mathlib.Core.Path.{_≡_};
 ghost use Rattle.keys.specs.Keys.{lengthInFormat, extraLength, noAddresses, withAddresses, isExtended, goodPair, takesForm};
+ghost use Rattle.keys.specs.Editions.{editionOf, isCar, isQuick, isSlowPair};
 
 // The form of a frame. Foreign is what is none of ours: mode 01 (CARB) of a format byte, or a form
 // number above 2.
@@ -16,6 +17,16 @@ pub struct Pair {
     pub kb1: u8,
     pub kb2: u8,
 }
+
+// The edition that a unit's key bytes choose: ISO 14230, or ISO 9141-2 with 08 08 or with 94 94.
+pub enum Edition {
+    Iso14230,
+    Car08,
+    Car94,
+}
+
+// The address that cars answer.
+const CAR_ADDRESS: u8 = 0x33;
 
 // Whether a pair of key bytes is good.
 pub fn good_pair(kb1: u8, kb2: u8) -> bool
@@ -87,4 +98,49 @@ pub fn takes_form(kb1: u8, form: Form) -> bool
         }
         Form::Foreign => false,
     }
+}
+
+// The edition that a pair chooses.
+pub fn edition_of(pair: Pair) -> Edition
+    ensures { λ r. ⌜ r ≡ editionOf pair ⌝ }
+{
+    if (pair.kb1 == 0x08) & (pair.kb2 == 0x08) {
+        return Edition::Car08;
+    }
+    if (pair.kb1 == 0x94) & (pair.kb2 == 0x94) {
+        return Edition::Car94;
+    }
+    Edition::Iso14230
+}
+
+// Whether a pair is a car's.
+pub fn is_car(pair: Pair) -> bool
+    ensures { λ r. ⌜ r ≡ isCar (editionOf pair) ⌝ }
+{
+    let edition = edition_of(pair);
+    match edition {
+        Edition::Iso14230 => false,
+        Edition::Car08 => true,
+        Edition::Car94 => true,
+    }
+}
+
+// Whether a unit with this pair may answer at once.
+pub fn is_quick(pair: Pair) -> bool
+    ensures { λ r. ⌜ r ≡ isQuick (editionOf pair) ⌝ }
+{
+    let edition = edition_of(pair);
+    match edition {
+        Edition::Iso14230 => false,
+        Edition::Car08 => false,
+        Edition::Car94 => true,
+    }
+}
+
+// Whether a pair is right in a slow start from an address: a good one, or a car's from its address.
+pub fn is_slow_pair(address: u8, pair: Pair) -> bool
+    ensures { λ r. ⌜ r ≡ isSlowPair address pair ⌝ }
+{
+    let car = is_car(pair);
+    good_pair(pair.kb1, pair.kb2) | ((address == CAR_ADDRESS) & car)
 }

@@ -23,7 +23,7 @@ module _ (J : Phase → Type 0) (keeps : (mark : Micros) (e : Event) (p : Phase)
   unfolding handled begun
   handled-keeps l e g =
       let I : Moment → Run → List Report → Type 0 = λ k r xs. J (r .phase) in
-      event-walk (l .mark) e I (λ k r xs m u i. subst J (sym (moved-phase r m)) (keeps (l .mark) e (r .phase) k m u i)) (λ r xs i. i) (λ r xs i. i) (λ r xs i. i)
+      event-walk (l .mark) e I (λ k r xs m u i. subst J (sym (moved-phase r m)) (keeps (l .mark) e (r .phase) k m u i)) (λ r xs i. i) (λ r xs i. i) (λ r xs i. i) (λ r xs i. i)
       (begun l e) g
 
   pub step-keeps : (l : Link) (c : Counts) (e : Event) → J (l .phase) → J (stepOf l c e .answer .link .phase)

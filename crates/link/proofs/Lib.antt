@@ -2,5 +2,7 @@ pub mod Ways
 pub mod Walk
 pub mod Kept
 pub mod Long
-pub mod Three
+pub mod Four
 pub mod One
+pub mod CarLinks
+pub mod Before

@@ -36,8 +36,8 @@ use Rattle.phases.specs.declared.Phase.{Phase}
 use Rattle.phases.proofs.StateTests.{open-connected}
 use Rattle.moves.specs.Moves.{still, makes, isSilent, afterSilence, afterP2, afterP3, afterWindow}
 use Rattle.moves.specs.declared.Move.{Move}
-use Rattle.moves.proofs.Rules.{Moment, at-silence, at-p2, at-p3, at-window, Rule, rests, breaks-off, waited, idled, expires, cuts-off, aborts, leaves, drops}
-use Rattle.moves.proofs.Rules.{starts-slow, starts-fast, hurries, low, strays, misses, connects, goes-on, opens, errs, breaks, frames, grows, stops}
+use Rattle.moves.proofs.Rules.{Moment, at-silence, at-p2, at-p3, at-window, Rule, rests, ends-right, breaks-off, waited, idled, expires, cuts-off, aborts, leaves, drops}
+use Rattle.moves.proofs.Rules.{starts-slow, starts-fast, hurries, low, cut-right, cut-wrong, cut-held, strays, misses, connects, goes-on, opens, errs, breaks, frames, grows, stops}
 use Rattle.moves.proofs.Rules.{by-silence, by-p2, by-p3, by-window}
 use Rattle.reports.specs.Reporting.{moved}
 use Rattle.reports.specs.declared.Counts.{Counts}
@@ -125,7 +125,8 @@ framed-long p g c =
 rule-long : (mark : Micros) (e : Event) (p : Phase) (k : Moment) (m : Move) → Rule mark e p k m → Long p → Long (m .phase)
 unfolding isConnected
 rule-long mark e p k m (rests u) g = g
-rule-long mark e p k m (breaks-off o s) g = settled-long p g (open-connected (p .state) o)
+rule-long mark e p k m (ends-right h s r) g = framed-long p g (ap isConnected h)
+rule-long mark e p k m (breaks-off o s r) g = settled-long p g (open-connected (p .state) o)
 rule-long mark e p k m (waited q f t) g = settled-long p g (ap isConnected q)
 rule-long mark e p k m (idled q f t) g = down-long _
 rule-long mark e p k m (expires s o) g = down-long _
@@ -137,6 +138,8 @@ rule-long mark e p k m (starts-slow a i) g = starting-long _ _
 rule-long mark e p k m (starts-fast w i l) g = starting-long _ _
 rule-long mark e p k m (hurries s i) g = down-long _
 rule-long mark e p k m (low w i l) g = down-long _
+rule-long mark e p k m (cut-right c r) g = framed-long p g (ap isConnected (cut-held mark e p c))
+rule-long mark e p k m (cut-wrong c r) g = settled-long p g (ap isConnected (cut-held mark e p c))
 rule-long mark e p k m (strays d) g = down-long _
 rule-long mark e p k m (misses s v) g = down-long _
 rule-long mark e p k m (connects s v l) g = connected-long (p .start)
@@ -184,6 +187,11 @@ settled-recent : (p : Phase) (gap : Micros) → Recent (settled p) gap
 unfolding settled talking isOpen
 settled-recent p gap o = absurd (false≢true o)
 
+framed-recent : (p : Phase) (gap : Micros) → Recent (framed p) gap
+unfolding framed asked answered timed talking isOpen
+framed-recent p gap =
+    by-test (λ (q : Phase). Recent q gap) (isTester (p .message .side)) {x = asked p} {y = answered p} (λ _ o. absurd (false≢true o)) (λ _ o. absurd (false≢true o))
+
 down-recent : (idle gap : Micros) → Recent (down idle) gap
 unfolding down isOpen
 down-recent idle gap o = absurd (false≢true o)
@@ -205,7 +213,8 @@ module _ (mark start : Micros) where
 
   recent-1 : (p : Phase) (m : Move) → At p at-silence m → Recent (m .phase) gap
   recent-1 p m (rests u) = off-second (isOpen (p .state)) (isSilent gap) u
-  recent-1 p m (breaks-off o s) = settled-recent p gap
+  recent-1 p m (ends-right h s r) = framed-recent p gap
+  recent-1 p m (breaks-off o s r) = settled-recent p gap
 
   recent-2 : (p : Phase) (m : Move) → At p at-p2 m → Recent p gap → Recent (m .phase) gap
   recent-2 p m (rests u) g = g

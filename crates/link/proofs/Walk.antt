@@ -1,12 +1,12 @@
 -- AN EVENT, MOVE BY MOVE. What holds before an event, and goes on to hold from each of its moves to the next, holds after it: `I` says what holds at each
--- moment, of the run so far and of the reports made so far; each rule leads from one moment to the next (`moves`), and so do hearing a byte (`hears`) and
--- an event that ends early, a tick (`ends`) or a drop (`leaves`). `Kept` is what this says of a link's phase alone. The walks `..-by` also say which events come
+-- moment, of the run so far and of the reports made so far; each rule leads from one moment to the next (`moves`), and so do a byte that comes (`comes`) and is
+-- heard (`hears`), and an event that ends early, a tick (`ends`) or a drop (`leaves`). `Kept` is what this says of a link's phase alone. The walks `..-by` also say which events come
 -- to a moment (`Reached`), and what a start finds (`Here`).
 -- Assumes nothing.
 use Prim.Native.Nat.{ℕ}
 use mathlib.Core.List.{List, [], _++_, append-assoc, append-nil}
 use mathlib.Core.Logic.{_⊎_, inl, inr}
-use mathlib.Core.Path.{_≡_, refl, sym, subst}
+use mathlib.Core.Path.{_≡_, _∙_, refl, sym, ap, subst}
 use lib.Dec.{eqb}
 use Rattle.base.specs.Reports.{dropped, restarted}
 use Rattle.base.proofs.Tests.{by-test}
@@ -15,12 +15,12 @@ use Rattle.units.specs.declared.Micros.{Micros}
 use Rattle.events.specs.declared.Kind.{Kind}
 use Rattle.events.specs.declared.Kind.the-variants.{Address, WakeUp, Byte, Tick, Drop, Other}
 use Rattle.events.specs.declared.Event.{Event}
-use Rattle.moves.specs.Moves.{afterSilence, afterP2, afterP3, afterWindow, closing, leaving, startingSlow, startingFast, afterByte, afterStop}
+use Rattle.moves.specs.Moves.{afterSilence, afterP2, afterP3, afterWindow, closing, leaving, startingSlow, startingFast, beforeByte, afterByte, afterStop}
 use Rattle.phases.specs.declared.Phase.{Phase}
 use Rattle.moves.specs.declared.Move.{Move}
-use Rattle.moves.proofs.Rules.{Moment, at-silence, at-p2, at-p3, at-window, at-closing, at-leaving, at-start, at-byte, at-stop, at-end, next}
+use Rattle.moves.proofs.Rules.{Moment, at-silence, at-p2, at-p3, at-window, at-closing, at-leaving, at-start, at-cut, at-hearing, at-byte, at-stop, at-end, next}
 use Rattle.moves.proofs.Rules.{Closes, by-drop, by-address, by-wake-up, Rule}
-use Rattle.moves.proofs.Rules.{by-silence, by-p2, by-p3, by-window, by-closing, by-leaving, by-slow, by-fast, by-byte, by-stop}
+use Rattle.moves.proofs.Rules.{by-silence, by-p2, by-p3, by-window, by-closing, by-leaving, by-slow, by-fast, by-cut, by-byte, by-stop}
 use Rattle.reports.specs.Reporting.{told, moved}
 use Rattle.reports.specs.declared.Report.{Report}
 use Rattle.reports.specs.declared.Run.{Run}
@@ -41,6 +41,8 @@ Reached e at-window = Unit {0}
 Reached e at-closing = ((e .kind ≡ Address) ⊎ (e .kind ≡ WakeUp)) ⊎ (e .kind ≡ Drop)
 Reached e at-leaving = ((e .kind ≡ Address) ⊎ (e .kind ≡ WakeUp)) ⊎ (e .kind ≡ Drop)
 Reached e at-start = (e .kind ≡ Address) ⊎ (e .kind ≡ WakeUp)
+Reached e at-cut = e .kind ≡ Byte
+Reached e at-hearing = e .kind ≡ Byte
 Reached e at-byte = e .kind ≡ Byte
 Reached e at-stop = e .kind ≡ Byte
 Reached e at-end = Unit {0}
@@ -59,6 +61,8 @@ BeforeStart at-window = Unit {0}
 BeforeStart at-closing = Unit {0}
 BeforeStart at-leaving = Unit {0}
 BeforeStart at-start = ⊥
+BeforeStart at-cut = ⊥
+BeforeStart at-hearing = ⊥
 BeforeStart at-byte = ⊥
 BeforeStart at-stop = ⊥
 BeforeStart at-end = ⊥
@@ -72,6 +76,8 @@ Here r at-window p = Unit {0}
 Here r at-closing p = Unit {0}
 Here r at-leaving p = Unit {0}
 Here r at-start p = p ≡ shut r restarted .phase
+Here r at-cut p = Unit {0}
+Here r at-hearing p = Unit {0}
 Here r at-byte p = Unit {0}
 Here r at-stop p = Unit {0}
 Here r at-end p = Unit {0}
@@ -116,18 +122,24 @@ module _ (mark : Micros) (e : Event) (before : Run) (I : Moment → Run → List
       let s = shut run restarted in
       subst (I at-end (moved s m)) (append-assoc xs (shutTells run restarted) (tells s m)) (moves at-start a s refl _ m u (shut-walk-by run xs restarted c i))
 
-  module _ (hears : e .kind ≡ Byte → (r : Run) (xs : List Report) → I at-closing r xs → I at-byte (hearing r) xs)
+  module _ (comes : e .kind ≡ Byte → (r : Run) (xs : List Report) → I at-closing r xs → I at-cut r xs)
+      (hears : e .kind ≡ Byte → (r : Run) (xs : List Report) → I at-hearing r xs → I at-byte (hearing r) xs)
       (leaves : e .kind ≡ Drop → (r : Run) (xs : List Report) → I at-start r xs → I at-end r xs)
       (ends : (e .kind ≡ Tick) ⊎ (e .kind ≡ Other) → (r : Run) (xs : List Report) → I at-closing r xs → I at-end r xs) where
     -- a byte is heard
     byte-walk : e .kind ≡ Byte → (xs : List Report) → I at-closing run xs → I at-end (byteHeard run e mark) (xs ++ byteTells run e mark)
     unfolding byteHeard byteTells next
     byte-walk k xs i =
-        let m1 = afterByte (run .phase) (e .side) (e .value) mark (e .start) in
-        let r1 = moved (hearing run) m1 in
-        let m2 = afterStop (r1 .phase) in
-        let i1 = moves at-byte k (hearing run) tt xs m1 (by-byte mark e (run .phase)) (hears k run xs i) in
-        subst (I at-end (moved r1 m2)) (append-assoc xs (tells (hearing run) m1) (tells r1 m2)) (moves at-stop k r1 tt _ m2 (by-stop mark e (r1 .phase)) i1)
+        let m1 = beforeByte (run .phase) (e .side) in
+        let r1 = moved run m1 in
+        let m2 = afterByte (r1 .phase) (e .side) (e .value) mark (e .start) in
+        let r2 = moved (hearing r1) m2 in
+        let m3 = afterStop (r2 .phase) in
+        let i1 = moves at-cut k run tt xs m1 (by-cut mark e (run .phase)) (comes k run xs i) in
+        let i2 = moves at-byte k (hearing r1) tt _ m2 (by-byte mark e (r1 .phase)) (hears k r1 _ i1) in
+        let i3 = moves at-stop k r2 tt _ m3 (by-stop mark e (r2 .phase)) i2 in
+        let said = ap (λ (ys : List Report). ys ++ tells r2 m3) (append-assoc xs (tells run m1) (tells (hearing r1) m2)) in
+        subst (I at-end (moved r2 m3)) (said ∙ append-assoc xs (tells run m1 ++ tells (hearing r1) m2) (tells r2 m3)) i3
 
     acts : (k : Kind) (xs : List Report) → e .kind ≡ k → I at-closing run xs → I at-end (actedBy k run e mark) (xs ++ actedTells k run e mark)
     acts Address xs k i =
@@ -159,9 +171,10 @@ module _ (mark : Micros) (e : Event) (I : Moment → Run → List Report → Typ
   pub shut-walk : (r : Run) (xs : List Report) (reason : ℕ) → Closes e reason → I at-closing r xs → I at-start (shut r reason) (xs ++ shutTells r reason)
   shut-walk r xs reason c i = shut-walk-by mark e r I (λ k _ s _. moves k s) r xs reason c i
 
-  module _ (hears : (r : Run) (xs : List Report) → I at-closing r xs → I at-byte (hearing r) xs)
+  module _ (comes : (r : Run) (xs : List Report) → I at-closing r xs → I at-cut r xs)
+      (hears : (r : Run) (xs : List Report) → I at-hearing r xs → I at-byte (hearing r) xs)
       (leaves : (r : Run) (xs : List Report) → I at-start r xs → I at-end r xs)
       (ends : (r : Run) (xs : List Report) → I at-closing r xs → I at-end r xs) where
     pub event-walk : (r : Run) → I at-silence r []
         → I at-end (acted (passed r mark (e .start)) e mark) (passedTells r mark (e .start) ++ actedTells (e .kind) (passed r mark (e .start)) e mark)
-    event-walk r i = event-walk-by mark e r I (λ k _ s _. moves k s) (λ _. hears) (λ _. leaves) (λ _. ends) i
+    event-walk r i = event-walk-by mark e r I (λ k _ s _. moves k s) (λ _. comes) (λ _. hears) (λ _. leaves) (λ _. ends) i

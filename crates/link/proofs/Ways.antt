@@ -11,21 +11,23 @@ use Rattle.base.specs.Reports.{noReason}
 use Rattle.base.proofs.Tests.{and-split, by-test}
 use Rattle.units.specs.Units.{gapOf}
 use Rattle.units.specs.declared.Micros.{Micros}
+use Rattle.keys.specs.Editions.{editionOf, isCar, isQuick}
 use Rattle.timing.specs.Timing.{isPassed}
 use Rattle.timing.specs.declared.Limit.{Limit}
-use Rattle.events.specs.Events.{isByte, marks, sameSide}
+use Rattle.events.specs.Events.{isByte, marks, isTester, isUnit, isNobody, sameSide}
 use Rattle.events.specs.declared.Kind.{Kind}
 use Rattle.events.specs.declared.Kind.the-variants.{Address, WakeUp, Byte, Tick, Drop, Other}
 use Rattle.events.specs.declared.Side.{Side}
+use Rattle.events.specs.declared.Side.the-variants.{Tester, Unit, Nobody}
 use Rattle.events.specs.declared.Event.{Event}
 use Rattle.starts.specs.Starts.{isOver}
-use Rattle.talk.specs.Talk.{isFirst, isSum, partReason, laterReason, begun, grown}
+use Rattle.talk.specs.Talk.{isFirst, frameReason, firstReason, isSum, partReason, laterReason, begun, begunBy, grown}
 use Rattle.talk.specs.declared.Part.{Part}
-use Rattle.talk.specs.declared.Part.the-variants.{Target, Source, Length, Data, Sum}
+use Rattle.talk.specs.declared.Part.the-variants.{Target, Source, Length, Data, Sum, Free}
 use Rattle.talk.specs.declared.Message.{Message}
 use Rattle.phases.specs.Phases.{isStarting, isQuiet, isHeld, isOpen, talking, holding, damaged}
-use Rattle.moves.specs.Moves.{still, isSilent, afterSilence, afterP2, afterP3, sinceOrigin, afterWindow}
-use Rattle.moves.specs.Moves.{reasonAtFirst, firstByte, laterByte, byteIn, afterByte, afterStop}
+use Rattle.moves.specs.Moves.{still, isSilent, afterSilence, isCutIn, beforeByte, afterP2, afterP3, sinceOrigin, afterWindow}
+use Rattle.moves.specs.Moves.{reasonAtFirst, firstByte, firstFrameByte, laterByte, byteIn, afterByte, afterStop}
 use Rattle.phases.specs.declared.State.{State}
 use Rattle.phases.specs.declared.State.the-variants.{Down, Starting, Quiet, Held, Damage}
 use Rattle.phases.specs.declared.Phase.{Phase}
@@ -143,11 +145,39 @@ byte-marks Other h = h
 
 -- THE LAW that each short way is a case of
 pub byte-step : (l : Link) (c : Counts) (e : Event) (p : Phase) → numberOf l c e ≡ taken → isByte (e .kind) ≡ true
-    → isCalm (l .phase) (l .mark) (e .start) ≡ true → afterByte (l .phase) (e .side) (e .value) (l .mark) (e .start) ≡ still p → afterStop p ≡ still p
+    → isCalm (l .phase) (l .mark) (e .start) ≡ true → isCutIn (l .phase) (e .side) ≡ false → afterByte (l .phase) (e .side) (e .value) (l .mark) (e .start) ≡ still p → afterStop p ≡ still p
     → wentOn l e p ≡ answerOf l c e
-unfolding answerOf takenBy handled acted begins byteHeard moved linkAfter markAfter wentOn
-byte-step l c e p t k q b s =
-    rw (eq-eqb _ _ t, passed-calm (begins l e) (l .mark) (e .start) q, byte-acts (e .kind) (begins l e) e (l .mark) k, b, s, byte-marks (e .kind) k) refl
+unfolding answerOf takenBy handled acted begins byteHeard moved beforeByte linkAfter markAfter wentOn
+byte-step l c e p t k q n b s =
+    rw (eq-eqb _ _ t, passed-calm (begins l e) (l .mark) (e .start) q, byte-acts (e .kind) (begins l e) e (l .mark) k, n, b, s, byte-marks (e .kind) k) refl
+
+-- a byte cuts in only where a message is held, and only from the other side
+not-cut : (p : Phase) (side : Side) → isHeld (p .state) ≡ false → isCutIn p side ≡ false
+unfolding isCutIn
+not-cut p side h = off-left _ _ (off-left _ _ (off-left (isHeld (p .state)) _ h))
+
+same-cut : (a b : Side) → sameSide a b ≡ true → (isTester b && isUnit a) ≡ false
+unfolding sameSide isTester isUnit isNobody
+same-cut Tester Tester h = refl
+same-cut Unit Unit h = refl
+same-cut Nobody Nobody h = refl
+same-cut Tester Unit h = absurd (false≢true h)
+same-cut Tester Nobody h = absurd (false≢true h)
+same-cut Unit Tester h = absurd (false≢true h)
+same-cut Unit Nobody h = absurd (false≢true h)
+same-cut Nobody Tester h = absurd (false≢true h)
+same-cut Nobody Unit h = absurd (false≢true h)
+
+three-off : (a b c d : Bool) → (b && c) ≡ false → (a && b && c && d) ≡ false
+three-off true true true d h = absurd (false≢true (sym h))
+three-off true true false d h = refl
+three-off true false c d h = refl
+three-off false b c d h = refl
+
+same-side-cut : (p : Phase) (side : Side) → sameSide side (p .message .side) ≡ true → isCutIn p side ≡ false
+unfolding isCutIn
+same-side-cut p side s =
+    three-off (isHeld (p .state)) (isTester (p .message .side)) (isUnit side) (isQuick (editionOf (p .start .pair))) (same-cut side (p .message .side) s)
 
 -- a link that is not quiet was not stopped
 not-stopped : (p : Phase) → isQuiet (p .state) ≡ false → afterStop p ≡ still p
@@ -173,19 +203,37 @@ quiet-byte Starting p side v mark start h = absurd (false≢true h)
 quiet-byte Held p side v mark start h = absurd (false≢true h)
 quiet-byte Damage p side v mark start h = absurd (false≢true h)
 
-first-opens : (p : Phase) (side : Side) (v : ℕ) (gap : Micros) → isQuiet (firstByte p side v gap .state) ≡ false
-unfolding firstByte holding damaged talking isQuiet
+quiet-held : (st : State) → isQuiet st ≡ true → isHeld st ≡ false
+unfolding isQuiet isHeld
+quiet-held Quiet h = refl
+quiet-held Down h = refl
+quiet-held Starting h = refl
+quiet-held Held h = absurd (false≢true h)
+quiet-held Damage h = refl
+
+-- on a 14230 link
+first-frame : (p : Phase) (side : Side) (v : ℕ) (gap : Micros) → isCar (editionOf (p .start .pair)) ≡ false → firstByte p side v gap ≡ firstFrameByte p side v gap
+unfolding firstByte firstFrameByte reasonAtFirst firstReason begunBy
+first-frame p side v gap n = rw n refl
+
+first-opens : (p : Phase) (side : Side) (v : ℕ) (gap : Micros) → isQuiet (firstFrameByte p side v gap .state) ≡ false
+unfolding firstFrameByte holding damaged talking isQuiet
 first-opens p side v gap =
-    by-test (λ (x : Phase). isQuiet (x .state) ≡ false) (eqb (reasonAtFirst p side v gap) noReason) {x = holding p (begun side v)} {y = damaged p (reasonAtFirst p side v gap)} (λ _. refl) (λ _. refl)
+    let reason = frameReason (p .start .pair .kb1) (p .reply) (p .windows) side v gap in
+    by-test (λ (x : Phase). isQuiet (x .state) ≡ false) (eqb reason noReason) {x = holding p (begun side v)} {y = damaged p reason} (λ _. refl) (λ _. refl)
 
 pub first-step : (l : Link) (c : Counts) (e : Event) → numberOf l c e ≡ taken → isFirstByte l e ≡ true
-    → wentOn l e (firstByte (l .phase) (e .side) (e .value) (gapOf (l .mark) (e .start))) ≡ answerOf l c e
+    → wentOn l e (firstFrameByte (l .phase) (e .side) (e .value) (gapOf (l .mark) (e .start))) ≡ answerOf l c e
 unfolding isFirstByte isCalm afterByte
 first-step l c e t h =
-    let x = and-split (isByte (e .kind) && isQuiet (l .phase .state)) _ h in
+    let gap = gapOf (l .mark) (e .start) in
+    let w = and-split (isByte (e .kind) && isQuiet (l .phase .state) && not (isPassed (limitOf (l .phase)) gap)) _ h in
+    let x = and-split (isByte (e .kind) && isQuiet (l .phase .state)) _ (w .0) in
     let y = and-split (isByte (e .kind)) _ (x .0) in
+    let n = not-true (isCar (editionOf (l .phase .start .pair))) (w .1) in
     byte-step l c e _ t (y .0) (quiet-calm (l .phase .state) (l .phase) (l .mark) (e .start) (y .1) (x .1))
-    (quiet-byte (l .phase .state) (l .phase) (e .side) (e .value) (l .mark) (e .start) (y .1))
+    (not-cut (l .phase) (e .side) (quiet-held (l .phase .state) (y .1)))
+    (quiet-byte (l .phase .state) (l .phase) (e .side) (e .value) (l .mark) (e .start) (y .1) ∙ ap still (first-frame (l .phase) (e .side) (e .value) gap n))
     (not-stopped _ (first-opens (l .phase) (e .side) (e .value) (gapOf (l .mark) (e .start))))
 
 -- ---- a byte that goes on with its message
@@ -204,6 +252,7 @@ inside-right Source m v h = refl
 inside-right Length m v h = absurd (false≢true h)
 inside-right Data m v h = refl
 inside-right Sum m v h = absurd (false≢true h)
+inside-right Free m v h = refl
 
 inside-more : (part : Part) → isInside part ≡ true → isSum part ≡ false
 unfolding isInside isSum
@@ -212,6 +261,7 @@ inside-more Source h = refl
 inside-more Length h = refl
 inside-more Data h = refl
 inside-more Sum h = absurd (false≢true h)
+inside-more Free h = refl
 
 later-on : (p : Phase) (side : Side) (v : ℕ) → sameSide side (p .message .side) ≡ true → isInside (p .message .part) ≡ true
     → laterByte p side v ≡ still (holding p (grown (p .message) v))
@@ -239,6 +289,7 @@ on-step l c e t h =
     let z = and-split (isByte (e .kind)) _ (y .0) in
     let s = and-split (sameSide (e .side) (l .phase .message .side)) _ (x .1) in
     byte-step l c e _ t (z .0) (held-calm (l .phase .state) (l .phase) (l .mark) (e .start) (z .1) (y .1))
+    (same-side-cut (l .phase) (e .side) (s .0))
     (held-byte (l .phase .state) (l .phase) (e .side) (e .value) (l .mark) (e .start) (z .1) ∙ later-on (l .phase) (e .side) (e .value) (s .0) (s .1))
     (not-stopped _ (holding-open (l .phase) (grown (l .phase .message) (e .value))))
 

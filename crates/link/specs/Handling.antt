@@ -11,7 +11,7 @@ use Rattle.events.specs.declared.Kind.{Kind}
 use Rattle.events.specs.declared.Kind.the-variants.{Address, WakeUp, Byte, Tick, Drop, Other}
 use Rattle.events.specs.declared.Event.{Event}
 use Rattle.phases.specs.Phases.{off}
-use Rattle.moves.specs.Moves.{afterSilence, afterP2, afterP3, afterWindow, closing, leaving, startingSlow, startingFast, afterByte, afterStop}
+use Rattle.moves.specs.Moves.{afterSilence, afterP2, afterP3, afterWindow, closing, leaving, startingSlow, startingFast, beforeByte, afterByte, afterStop}
 use Rattle.reports.specs.Reporting.{noReports, moved}
 use Rattle.reports.specs.declared.Run.{Run}
 use Rattle.link.specs.declared.Link.{Link}
@@ -40,11 +40,12 @@ shut r reason =
 abbrev pub hearing : Run → Run
 hearing r = record { phase = r .phase; heard = countSum (r .heard) 1; named = r .named; time = r .time; reports = r .reports }
 
--- a byte: its own rule, and then the link may have been stopped
+-- a byte: it may end what is held "before that byte acts"; then it is heard, and its own rule acts; and then the link may have been stopped
 unfoldable pub byteHeard : Run → Event → Micros → Run
 byteHeard r e mark =
-    let r1 = moved (hearing r) (afterByte (r .phase) (e .side) (e .value) mark (e .start)) in
-    moved r1 (afterStop (r1 .phase))
+    let r1 = moved r (beforeByte (r .phase) (e .side)) in
+    let r2 = moved (hearing r1) (afterByte (r1 .phase) (e .side) (e .value) mark (e .start)) in
+    moved r2 (afterStop (r2 .phase))
 
 -- what it does, by its kind; what is open is closed first, so that a start is judged by the idle time that closing has left
 abbrev pub actedBy : Kind → Run → Event → Micros → Run

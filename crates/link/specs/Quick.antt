@@ -7,6 +7,7 @@ use Rattle.base.specs.Numbers.{taken}
 use Rattle.base.specs.Sums.{countSum}
 use Rattle.units.specs.Units.{gapOf}
 use Rattle.units.specs.declared.Micros.{Micros}
+use Rattle.keys.specs.Editions.{editionOf, isCar}
 use Rattle.timing.specs.Timing.{isPassed}
 use Rattle.timing.specs.declared.Limit.{Limit}
 use Rattle.events.specs.Events.{isByte, sameSide}
@@ -14,7 +15,7 @@ use Rattle.events.specs.declared.Event.{Event}
 use Rattle.starts.specs.Starts.{isOver}
 use Rattle.talk.specs.Talk.{isFirst}
 use Rattle.talk.specs.declared.Part.{Part}
-use Rattle.talk.specs.declared.Part.the-variants.{Target, Source, Length, Data, Sum}
+use Rattle.talk.specs.declared.Part.the-variants.{Target, Source, Length, Data, Sum, Free}
 use Rattle.phases.specs.Phases.{isHeld, isQuiet}
 use Rattle.moves.specs.Moves.{isSilent, sinceOrigin}
 use Rattle.phases.specs.declared.State.{State}
@@ -60,6 +61,7 @@ isInside Source = true
 isInside Length = false
 isInside Data = true
 isInside Sum = false
+isInside Free = true
 
 unfoldable pub goesOn : Link → Event → Bool
 goesOn l e =
@@ -68,6 +70,10 @@ goesOn l e =
     && not (isSilent (gapOf (l .mark) (e .start)))
     && (sameSide (e .side) (l .phase .message .side) && isInside (l .phase .message .part))
 
--- a byte is the first of a message
+-- a byte is the first of a message, on a 14230 link
 unfoldable pub isFirstByte : Link → Event → Bool
-isFirstByte l e = isByte (e .kind) && isQuiet (l .phase .state) && not (isPassed (limitOf (l .phase)) (gapOf (l .mark) (e .start)))
+isFirstByte l e =
+    isByte (e .kind)
+    && isQuiet (l .phase .state)
+    && not (isPassed (limitOf (l .phase)) (gapOf (l .mark) (e .start)))
+    && not (isCar (editionOf (l .phase .start .pair)))

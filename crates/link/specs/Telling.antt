@@ -10,7 +10,7 @@ use Rattle.units.specs.declared.Micros.{Micros}
 use Rattle.events.specs.declared.Kind.{Kind}
 use Rattle.events.specs.declared.Kind.the-variants.{Address, WakeUp, Byte, Tick, Drop, Other}
 use Rattle.events.specs.declared.Event.{Event}
-use Rattle.moves.specs.Moves.{afterSilence, afterP2, afterP3, afterWindow, closing, leaving, startingSlow, startingFast, afterByte, afterStop}
+use Rattle.moves.specs.Moves.{afterSilence, afterP2, afterP3, afterWindow, closing, leaving, startingSlow, startingFast, beforeByte, afterByte, afterStop}
 use Rattle.moves.specs.declared.Move.{Move}
 use Rattle.reports.specs.Reporting.{reportOf, moved}
 use Rattle.reports.specs.declared.Report.{Report}
@@ -44,9 +44,11 @@ shutTells r reason =
 -- .. as a byte is heard, ..
 unfoldable pub byteTells : Run → Event → Micros → List Report
 byteTells r e mark =
-    let m1 = afterByte (r .phase) (e .side) (e .value) mark (e .start) in
-    let r1 = moved (hearing r) m1 in
-    tells (hearing r) m1 ++ tells r1 (afterStop (r1 .phase))
+    let m1 = beforeByte (r .phase) (e .side) in
+    let r1 = moved r m1 in
+    let m2 = afterByte (r1 .phase) (e .side) (e .value) mark (e .start) in
+    let r2 = moved (hearing r1) m2 in
+    tells r m1 ++ tells (hearing r1) m2 ++ tells r2 (afterStop (r2 .phase))
 
 -- .. and in all
 abbrev pub actedTells : Kind → Run → Event → Micros → List Report

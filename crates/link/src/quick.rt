@@ -80,6 +80,7 @@ fn is_inside(part: Part) -> bool
         Part::Length => false,
         Part::Data => true,
         Part::Sum => false,
+        Part::Free => true,
     }
 }
 
@@ -101,7 +102,7 @@ pub(crate) fn goes_on(l: Link, e: Event) -> bool
         & (events::same_side(side, whose) & is_inside(part))
 }
 
-// Whether a byte is the first of a message.
+// Whether a byte is the first of a message, on a 14230 link.
 pub(crate) fn is_first_byte(l: Link, e: Event) -> bool
     ensures { λ r. ⌜ r ≡ isFirstByte l e ⌝ }
 {
@@ -109,5 +110,7 @@ pub(crate) fn is_first_byte(l: Link, e: Event) -> bool
     let kind = e.kind;
     let state = p.state;
     let over = timing::passed(limit_of(p), units::gap(l.mark, e.start));
-    events::is_byte(kind) & phases::is_quiet(state) & !over
+    let s = p.start;
+    let car = keys::is_car(s.pair);
+    events::is_byte(kind) & phases::is_quiet(state) & !over & !car
 }

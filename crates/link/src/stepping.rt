@@ -81,9 +81,14 @@ fn hear_byte(r: Run, e: Event, mark: Micros) -> Run
 {
     let p = r.phase;
     let side = e.side;
-    let r1 = make(hear(r), moves::after_byte(p, side, e.value, mark, e.start));
+    let r1 = make(r, moves::before_byte(p, side));
     let p1 = r1.phase;
-    make(r1, moves::after_stop(p1))
+    let r2 = make(
+        hear(r1),
+        moves::after_byte(p1, side, e.value, mark, e.start),
+    );
+    let p2 = r2.phase;
+    make(r2, moves::after_stop(p2))
 }
 
 // An event acts.
@@ -207,7 +212,7 @@ pub fn respond(l: Link, c: Counts, e: Event) -> Answer
         return go_on(
             l,
             e,
-            moves::first_byte(p, side, e.value, units::gap(l.mark, e.start)),
+            moves::first_frame_byte(p, side, e.value, units::gap(l.mark, e.start)),
         );
     }
     take(l, e)

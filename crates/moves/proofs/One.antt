@@ -7,7 +7,7 @@ use Rattle.units.specs.declared.Micros.{Micros}
 use Rattle.moves.specs.declared.Move.{Move}
 use Rattle.phases.specs.declared.Phase.{Phase}
 use Rattle.events.specs.declared.Side.{Side}
-use Rattle.moves.specs.Moves.{startingSlow, startingFast, firstByte, afterByte, afterStop, isSilent, afterSilence, afterP2, afterP3, sinceOrigin, afterWindow, closing, leaving}
+use Rattle.moves.specs.Moves.{startingSlow, startingFast, firstFrameByte, afterByte, afterStop, isSilent, afterSilence, beforeByte, afterP2, afterP3, sinceOrigin, afterWindow, closing, leaving}
 
 pub starting-slow : (idle : Micros) (address : ℕ) (mark start : Micros) → Only (λ (r : Move). r ≡ startingSlow idle address mark start)
 starting-slow idle address mark start = only (startingSlow idle address mark start)
@@ -15,8 +15,8 @@ starting-slow idle address mark start = only (startingSlow idle address mark sta
 pub starting-fast : (idle mark fall rise : Micros) → Only (λ (r : Move). r ≡ startingFast idle mark fall rise)
 starting-fast idle mark fall rise = only (startingFast idle mark fall rise)
 
-pub first-byte : (p : Phase) (side : Side) (v : ℕ) (gap : Micros) → Only (λ (r : Phase). r ≡ firstByte p side v gap)
-first-byte p side v gap = only (firstByte p side v gap)
+pub first-frame-byte : (p : Phase) (side : Side) (v : ℕ) (gap : Micros) → Only (λ (r : Phase). r ≡ firstFrameByte p side v gap)
+first-frame-byte p side v gap = only (firstFrameByte p side v gap)
 
 pub after-byte : (p : Phase) (side : Side) (v : ℕ) (mark start : Micros) → Only (λ (r : Move). r ≡ afterByte p side v mark start)
 after-byte p side v mark start = only (afterByte p side v mark start)
@@ -26,6 +26,9 @@ after-stop p = only (afterStop p)
 
 pub is-silent : (gap : Micros) → Only (λ (r : Bool). r ≡ isSilent gap)
 is-silent gap = only (isSilent gap)
+
+pub before-byte : (p : Phase) (side : Side) → Only (λ (r : Move). r ≡ beforeByte p side)
+before-byte p side = only (beforeByte p side)
 
 pub after-silence : (p : Phase) (gap : Micros) → Only (λ (r : Move). r ≡ afterSilence p gap)
 after-silence p gap = only (afterSilence p gap)

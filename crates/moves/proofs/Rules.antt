@@ -19,18 +19,18 @@ use Rattle.events.specs.declared.Kind.{Kind}
 use Rattle.events.specs.declared.Kind.the-variants.{Address, WakeUp, Byte, Tick, Drop, Other}
 use Rattle.events.specs.declared.Event.{Event}
 use Rattle.starts.specs.Starts.{judged, isOver, isLast, onward, slowStart, fastStart}
-use Rattle.talk.specs.Talk.{isFirst, begun, laterReason, isSum, grown, isStopped}
-use Rattle.phases.specs.Phases.{isDown, isStarting, isQuiet, isOpen, down, off, starting, connected, holding, damaged, settled, framed}
+use Rattle.talk.specs.Talk.{isFirst, begunBy, laterReason, endReason, isSum, grown, isStopped}
+use Rattle.phases.specs.Phases.{isDown, isStarting, isQuiet, isHeld, isOpen, down, off, starting, connected, holding, damaged, settled, framed}
 use Rattle.phases.specs.declared.State.{State}
 use Rattle.phases.specs.declared.State.the-variants.{Down, Starting, Quiet, Held, Damage}
 use Rattle.phases.specs.declared.Phase.{Phase}
-use Rattle.phases.proofs.StateTests.{is-down, is-starting, is-quiet, starting-apart, down-is, quiet-is, starting-is}
-use Rattle.moves.specs.Moves.{still, makes, lossReason, ended, isSilent, afterSilence, afterP2, afterP3, sinceOrigin, afterWindow, closing, leaving}
+use Rattle.phases.proofs.StateTests.{is-down, is-starting, is-quiet, is-held, starting-apart, down-is, quiet-is, held-is, starting-is}
+use Rattle.moves.specs.Moves.{still, makes, lossReason, isRight, ended, isSilent, afterSilence, isCutIn, beforeByte, afterP2, afterP3, sinceOrigin, afterWindow, closing, leaving}
 use Rattle.moves.specs.Moves.{isIdle, startingSlow, isGoodLow, startingFast, startByte, reasonAtFirst, firstByte, laterByte, byteIn, afterByte, afterStop}
 use Rattle.moves.specs.declared.Move.{Move}
 
 -- the moments of an event's handling, each the one before a rule is asked: time passes (four), what is open is closed, a connected link is left, a start is judged;
--- or a byte is heard, and then a stop is looked for; and the end
+-- or a byte comes and may end what is held, is heard, acts, and then a stop is looked for; and the end
 pub data Moment : Type 0 where
   at-silence : Moment
   at-p2 : Moment
@@ -39,6 +39,8 @@ pub data Moment : Type 0 where
   at-closing : Moment
   at-leaving : Moment
   at-start : Moment
+  at-cut : Moment
+  at-hearing : Moment
   at-byte : Moment
   at-stop : Moment
   at-end : Moment
@@ -51,6 +53,8 @@ next at-window = at-closing
 next at-closing = at-leaving
 next at-leaving = at-start
 next at-start = at-end
+next at-cut = at-hearing
+next at-hearing = at-byte
 next at-byte = at-stop
 next at-stop = at-end
 next at-end = at-end
@@ -99,6 +103,8 @@ module _ (mark : Micros) (e : Event) (p : Phase) where
   Unmoved at-closing = (isOpen (p .state) ≡ false) × (isStarting (p .state) ≡ false)
   Unmoved at-leaving = (isQuiet (p .state) ≡ false) × ((isDown (p .state) && eqb (reasonOf (e .kind)) dropped) ≡ false)
   Unmoved at-start = ⊥
+  Unmoved at-cut = isCutIn p (e .side) ≡ false
+  Unmoved at-hearing = ⊥
   Unmoved at-byte = p .state ≡ Damage
   Unmoved at-stop = (isQuiet (p .state) && isStopped (p .request)) ≡ false
   Unmoved at-end = ⊥
@@ -106,7 +112,9 @@ module _ (mark : Micros) (e : Event) (p : Phase) where
   pub data Rule : Moment → Move → Type 0 where
     rests : {k : Moment} → Unmoved k → Rule k (still p)
     -- time passes
-    breaks-off : isOpen (p .state) ≡ true → isSilent gap ≡ true → Rule at-silence (ended p)
+    ends-right : p .state ≡ Held → isSilent gap ≡ true → eqb (endReason (p .message)) noReason ≡ true → Rule at-silence (makes frameReport noReason (framed p))
+    breaks-off : isOpen (p .state) ≡ true → isSilent gap ≡ true → isRight p ≡ false
+        → Rule at-silence (makes damageReport (lossReason p (endReason (p .message))) (settled p))
     waited : p .state ≡ Quiet → isFirst (p .reply) ≡ true → isPassed (p .windows .p2max) gap ≡ true
         → Rule at-p2 (makes noReplyReport noReason (settled p))
     idled : p .state ≡ Quiet → isFirst (p .reply) ≡ false → isPassed (p .windows .p3max) gap ≡ true → Rule at-p3 (makes downReport idleOver (down (micros 0)))
@@ -122,6 +130,10 @@ module _ (mark : Micros) (e : Event) (p : Phase) where
         → Rule at-start (still (starting (e .start) fastStart))
     hurries : (e .kind ≡ Address) ⊎ (e .kind ≡ WakeUp) → isIdle (p .idle) mark (e .start) ≡ false → Rule at-start (makes notIdleReport noReason (down (p .idle)))
     low : e .kind ≡ WakeUp → isIdle (p .idle) mark (e .start) ≡ true → isGoodLow (e .start) (e .end) ≡ false → Rule at-start (makes failedReport wrongLow off)
+    -- a byte cuts in
+    cut-right : isCutIn p (e .side) ≡ true → eqb (endReason (p .message)) noReason ≡ true → Rule at-cut (makes frameReport noReason (framed p))
+    cut-wrong : isCutIn p (e .side) ≡ true → eqb (endReason (p .message)) noReason ≡ false
+        → Rule at-cut (makes damageReport (endReason (p .message)) (settled p))
     -- a byte of a link that is down, of an initialization, ..
     strays : p .state ≡ Down → Rule at-byte (makes outsideReport noReason (down (p .idle)))
     misses : p .state ≡ Starting → eqb verdict noReason ≡ false → Rule at-byte (makes failedReport verdict off)
@@ -130,7 +142,7 @@ module _ (mark : Micros) (e : Event) (p : Phase) where
     goes-on : p .state ≡ Starting → eqb verdict noReason ≡ true → isLast (p .start .stage) ≡ false
         → Rule at-byte (still (starting (p .fall) (onward (p .start) (e .value))))
     -- .. the first of a message, ..
-    opens : p .state ≡ Quiet → eqb (reasonAtFirst p (e .side) (e .value) gap) noReason ≡ true → Rule at-byte (still (holding p (begun (e .side) (e .value))))
+    opens : p .state ≡ Quiet → eqb (reasonAtFirst p (e .side) (e .value) gap) noReason ≡ true → Rule at-byte (still (holding p (begunBy (p .start .pair) (e .side) (e .value))))
     errs : p .state ≡ Quiet → eqb (reasonAtFirst p (e .side) (e .value) gap) noReason ≡ false
         → Rule at-byte (still (damaged p (reasonAtFirst p (e .side) (e .value) gap)))
     -- .. and a later one
@@ -144,9 +156,29 @@ module _ (mark : Micros) (e : Event) (p : Phase) where
     stops : p .state ≡ Quiet → isStopped (p .request) ≡ true → Rule at-stop (makes downReport stopped (down (p .windows .p3min)))
 
   -- ---- time passes
+  by-end : isOpen (p .state) ≡ true → isSilent gap ≡ true → Rule at-silence (ended p)
+  unfolding ended isRight
+  by-end o s =
+      by-test (Rule at-silence) (isRight p) (λ t. let x = and-split (isHeld (p .state)) _ t in ends-right (is-held _ (x .0)) s (x .1)) (breaks-off o s)
+
   pub by-silence : Rule at-silence (afterSilence p gap)
   unfolding afterSilence
-  by-silence = by-test (Rule at-silence) (isOpen (p .state) && isSilent gap) (λ t. let x = and-split _ _ t in breaks-off (x .0) (x .1)) rests
+  by-silence = by-test (Rule at-silence) (isOpen (p .state) && isSilent gap) (λ t. let x = and-split _ _ t in by-end (x .0) (x .1)) rests
+
+  -- a byte that cuts in finds a message held
+  pub cut-held : isCutIn p (e .side) ≡ true → p .state ≡ Held
+  unfolding isCutIn
+  cut-held t = is-held _ (and-split (isHeld (p .state)) _ (and-split _ _ (and-split _ _ t .0) .0) .0)
+
+  by-cut-end : isCutIn p (e .side) ≡ true → Rule at-cut (ended p)
+  unfolding ended isRight lossReason
+  by-cut-end t =
+      rw (held-is (cut-held t) .0)
+      (by-test (Rule at-cut) (eqb (endReason (p .message)) noReason) (cut-right t) (cut-wrong t))
+
+  pub by-cut : Rule at-cut (beforeByte p (e .side))
+  unfolding beforeByte
+  by-cut = by-test (Rule at-cut) (isCutIn p (e .side)) by-cut-end rests
 
   pub by-p2 : Rule at-p2 (afterP2 p gap)
   unfolding afterP2
@@ -245,6 +277,8 @@ module _ (mark : Micros) (e : Event) (p : Phase) where
   moveAt at-closing = closing p
   moveAt at-leaving = leaving p (reasonOf (e .kind))
   moveAt at-start = startOf (e .kind)
+  moveAt at-cut = beforeByte p (e .side)
+  moveAt at-hearing = still p
   moveAt at-byte = afterByte p (e .side) (e .value) mark (e .start)
   moveAt at-stop = afterStop p
   moveAt at-end = still p
@@ -254,7 +288,7 @@ module _ (mark : Micros) (e : Event) (p : Phase) where
   byte-of st q = sym (ap (λ (x : State). byteIn x p (e .side) (e .value) mark (e .start)) q)
 
   rests-at : (k : Moment) → Unmoved k → still p ≡ moveAt k
-  unfolding afterSilence afterP2 afterP3 afterWindow closing leaving afterStop
+  unfolding afterSilence beforeByte afterP2 afterP3 afterWindow closing leaving afterStop
   rests-at at-silence u = rw u refl
   rests-at at-p2 u = rw u refl
   rests-at at-p3 u = rw u refl
@@ -262,14 +296,19 @@ module _ (mark : Micros) (e : Event) (p : Phase) where
   rests-at at-closing u = rw (u .0, u .1) refl
   rests-at at-leaving u = rw (u .0, u .1) refl
   rests-at at-start u = absurd u
+  rests-at at-cut u = rw u refl
+  rests-at at-hearing u = absurd u
   rests-at at-byte u = byte-of Damage u
   rests-at at-stop u = rw u refl
   rests-at at-end u = absurd u
 
   pub is-move : {k : Moment} {m : Move} → Rule k m → m ≡ moveAt k
-  unfolding afterSilence afterP2 afterP3 afterWindow closing leaving startingSlow startingFast startByte firstByte laterByte afterStop
+  unfolding afterSilence beforeByte ended isRight lossReason afterP2 afterP3 afterWindow closing leaving startingSlow startingFast startByte firstByte laterByte afterStop
   is-move (rests {k = k} u) = rests-at k u
-  is-move (breaks-off o s) = rw (o, s) refl
+  is-move (ends-right h s r) = rw (held-is h .1, s, held-is h .0, r) refl
+  is-move (breaks-off o s r) = rw (o, s, r) refl
+  is-move (cut-right c r) = rw (c, held-is (cut-held c) .0, r) refl
+  is-move (cut-wrong c r) = rw (c, held-is (cut-held c) .0, r) refl
   is-move (waited q f t) = rw (quiet-is q, f, t) refl
   is-move (idled q f t) = rw (quiet-is q, f, t) refl
   is-move (expires s o) = rw (starting-is s, o) refl

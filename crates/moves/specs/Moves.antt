@@ -1,5 +1,5 @@
 -- What time, a closing event, a start and a byte do to a link: each rule is a move, a report (none if its number is 0) and the phase after it
--- (document 01, "Events and what the link does"; document 02, "One", on the idle time).
+-- (document 01, "Events and what the link does"; document 02, "One", on the idle time, and "Five", on cars).
 -- Assumes nothing.
 use Prim.Native.Nat.{ℕ}
 use mathlib.Core.Bool.{Bool, not, _&&_}
@@ -9,10 +9,12 @@ use Rattle.base.specs.Reports.{frameReport, damageReport, connectedReport, fail
 use Rattle.base.specs.Reports.{noReason, closed, windowOver, wrongLow, stopped, idleOver, dropped}
 use Rattle.units.specs.Units.{micros, isEarlier, gapOf}
 use Rattle.units.specs.declared.Micros.{Micros}
+use Rattle.keys.specs.Editions.{editionOf, isQuick}
 use Rattle.timing.specs.Timing.{isPassed}
+use Rattle.events.specs.Events.{isTester, isUnit}
 use Rattle.events.specs.declared.Side.{Side}
 use Rattle.starts.specs.Starts.{originOf, judged, isOver, isLast, onward, slowStart, fastStart}
-use Rattle.talk.specs.Talk.{isFirst, firstReason, begun, laterReason, endReason, isSum, grown, isStopped}
+use Rattle.talk.specs.Talk.{isFirst, frameReason, firstReason, begun, begunBy, laterReason, endReason, isSum, grown, isStopped}
 use Rattle.phases.specs.Phases.{isDown, isStarting, isQuiet, isHeld, isOpen, down, off, starting, connected, holding, damaged, settled, framed}
 use Rattle.phases.specs.declared.State.{State}
 use Rattle.phases.specs.declared.State.the-variants.{Down, Starting, Quiet, Held, Damage}
@@ -40,9 +42,15 @@ isSilent gap = isEarlier byteGap gap
 unfoldable pub lossReason : Phase → ℕ → ℕ
 lossReason p reason = if isHeld (p .state) then reason else p .message .why
 
--- what silence makes of what is open
-abbrev pub ended : Phase → Move
-ended p = makes damageReport (lossReason p (endReason (p .start .pair))) (settled p)
+-- A message held that is right as it stands. Of a 14230 link none is; of a car, "its last byte is the checksum, and report 1 comes then".
+unfoldable pub isRight : Phase → Bool
+isRight p = isHeld (p .state) && eqb (endReason (p .message)) noReason
+
+-- what is open has ended
+unfoldable pub ended : Phase → Move
+ended p =
+    if isRight p then makes frameReport noReason (framed p) else
+    makes damageReport (lossReason p (endReason (p .message))) (settled p)
 
 unfoldable pub afterSilence : Phase → Micros → Move
 afterSilence p gap = if isOpen (p .state) && isSilent gap then ended p else still p
@@ -99,6 +107,13 @@ startingFast idle mark fall rise =
     if isGoodLow fall rise then still (starting fall fastStart) else makes failedReport wrongLow off
 
 -- ---- a byte
+-- "under 94 94 a unit byte after a held tester message ends it too, judged as after the gap before that byte acts"
+unfoldable pub isCutIn : Phase → Side → Bool
+isCutIn p side = isHeld (p .state) && isTester (p .message .side) && isUnit side && isQuick (editionOf (p .start .pair))
+
+unfoldable pub beforeByte : Phase → Side → Move
+beforeByte p side = if isCutIn p side then ended p else still p
+
 -- "A byte that fails joins its initialization: report 4, down." "Success is report 3."
 unfoldable pub startByte : Phase → Side → ℕ → Micros → Move
 startByte p side v gap =
@@ -112,7 +127,13 @@ reasonAtFirst p side v gap = firstReason (p .start .pair) (p .reply) (p .windows
 
 unfoldable pub firstByte : Phase → Side → ℕ → Micros → Phase
 firstByte p side v gap =
-    if eqb (reasonAtFirst p side v gap) noReason then holding p (begun side v) else damaged p (reasonAtFirst p side v gap)
+    if eqb (reasonAtFirst p side v gap) noReason then holding p (begunBy (p .start .pair) side v) else damaged p (reasonAtFirst p side v gap)
+
+-- the same on a 14230 link, which the code asks for first (no rule of its own: `first-frame` in link/proofs/Ways.antt)
+unfoldable pub firstFrameByte : Phase → Side → ℕ → Micros → Phase
+firstFrameByte p side v gap =
+    let reason = frameReason (p .start .pair .kb1) (p .reply) (p .windows) side v gap in
+    if eqb reason noReason then holding p (begun side v) else damaged p reason
 
 -- a later one: damage, the message's end ("A right checksum is report 1"), or one byte more
 unfoldable pub laterByte : Phase → Side → ℕ → Move

@@ -1,6 +1,6 @@
 // What a start and a byte do.
 ghost use mathlib.Core.Path.{_≡_};
-ghost use Rattle.moves.specs.Moves.{isIdle, startingSlow, isGoodLow, startingFast, startByte, reasonAtFirst, firstByte, laterByte, afterByte, afterStop};
+ghost use Rattle.moves.specs.Moves.{isIdle, startingSlow, isGoodLow, startingFast, startByte, reasonAtFirst, firstByte, firstFrameByte, laterByte, afterByte, afterStop};
 use crate::Move;
 use crate::passing::making;
 use crate::passing::since_origin;
@@ -92,12 +92,27 @@ fn reason_at_first(p: Phase, side: Side, v: u8, gap: Micros) -> u8
 }
 
 // The first byte of a message.
-pub fn first_byte(p: Phase, side: Side, v: u8, gap: Micros) -> Phase
+fn first_byte(p: Phase, side: Side, v: u8, gap: Micros) -> Phase
     ensures { λ r. ⌜ r ≡ firstByte p side v gap ⌝ }
 {
+    let s = p.start;
     let reason = reason_at_first(p, side, v, gap);
     if reason == base::reason::NONE {
-        return hold(p, talk::begin(side, v));
+        return hold(p, talk::begin(s.pair, side, v));
+    }
+    damage(p, reason)
+}
+
+// The same on a 14230 link.
+pub fn first_frame_byte(p: Phase, side: Side, v: u8, gap: Micros) -> Phase
+    ensures { λ r. ⌜ r ≡ firstFrameByte p side v gap ⌝ }
+{
+    let s = p.start;
+    let reply = p.reply;
+    let w = p.windows;
+    let reason = talk::frame_reason(s.pair.kb1, reply, w, side, v, gap);
+    if reason == base::reason::NONE {
+        return hold(p, talk::begin_frame(side, v));
     }
     damage(p, reason)
 }

@@ -4,13 +4,14 @@ mod passing;
 
 pub use actions::after_byte;
 pub use actions::after_stop;
-pub use actions::first_byte;
+pub use actions::first_frame_byte;
 pub use actions::starting_fast;
 pub use actions::starting_slow;
 pub use passing::after_p2;
 pub use passing::after_p3;
 pub use passing::after_silence;
 pub use passing::after_window;
+pub use passing::before_byte;
 pub use passing::close_open;
 pub use passing::is_silent;
 pub use passing::leave;

@@ -1,9 +1,11 @@
 // What passing time and a closing event do.
 ghost use mathlib.Core.Path.{_≡_};
-ghost use Rattle.moves.specs.Moves.{still, makes, isSilent, lossReason, afterSilence, afterP2, afterP3, sinceOrigin, afterWindow};
+ghost use Rattle.moves.specs.Moves.{still, makes, isSilent, lossReason, isRight, ended, afterSilence, isCutIn, beforeByte, afterP2, afterP3, sinceOrigin, afterWindow};
 ghost use Rattle.moves.specs.Moves.{closing, leaving};
 use crate::Move;
+use events::Side;
 use phases::Phase;
+use phases::end_frame;
 use phases::go_down;
 use phases::go_off;
 use phases::is_down;
@@ -58,6 +60,30 @@ fn loss_reason(p: Phase, reason: u8) -> u8
     m.why
 }
 
+// Whether what is open is a message that is right as it stands: a car's.
+fn is_right(p: Phase) -> bool
+    ensures { λ r. ⌜ r ≡ isRight p ⌝ }
+{
+    let state = p.state;
+    let m = p.message;
+    is_held(state) & (talk::end_reason(m) == base::reason::NONE)
+}
+
+// What is open has ended: a frame, or damage.
+fn end_open(p: Phase) -> Move
+    ensures { λ r. ⌜ r ≡ ended p ⌝ }
+{
+    let m = p.message;
+    if is_right(p) {
+        return making(base::report::FRAME, base::reason::NONE, end_frame(p));
+    }
+    making(
+        base::report::DAMAGE,
+        loss_reason(p, talk::end_reason(m)),
+        settle(p),
+    )
+}
+
 // 20 ms pass with something open.
 pub fn after_silence(p: Phase, gap: Micros) -> Move
     ensures { λ r. ⌜ r ≡ afterSilence p gap ⌝ }
@@ -65,11 +91,30 @@ pub fn after_silence(p: Phase, gap: Micros) -> Move
     let state = p.state;
     let over = is_open(state) & is_silent(gap);
     if over {
-        return making(
-            base::report::DAMAGE,
-            loss_reason(p, base::reason::BROKEN_OFF),
-            settle(p),
-        );
+        return end_open(p);
+    }
+    stay(p)
+}
+
+// Whether a byte of this side ends the message held: the unit's, which may answer at once, the
+// tester's.
+fn is_cut_in(p: Phase, side: Side) -> bool
+    ensures { λ r. ⌜ r ≡ isCutIn p side ⌝ }
+{
+    let state = p.state;
+    let m = p.message;
+    let whose = m.side;
+    let s = p.start;
+    let pair = s.pair;
+    is_held(state) & events::is_tester(whose) & events::is_unit(side) & keys::is_quick(pair)
+}
+
+// A byte comes, before it acts.
+pub fn before_byte(p: Phase, side: Side) -> Move
+    ensures { λ r. ⌜ r ≡ beforeByte p side ⌝ }
+{
+    if is_cut_in(p, side) {
+        return end_open(p);
     }
     stay(p)
 }

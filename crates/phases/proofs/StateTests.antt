@@ -133,3 +133,7 @@ quiet-is q = ap isQuiet q
 pub starting-is : {st : State} → st ≡ Starting → isStarting st ≡ true
 unfolding isStarting
 starting-is q = ap isStarting q
+
+pub held-is : {st : State} → st ≡ Held → (isHeld st ≡ true) × (isOpen st ≡ true)
+unfolding isHeld isOpen
+held-is h = (ap isHeld h, ap isOpen h)

@@ -74,6 +74,7 @@ fn print_reports(rs: Reports) {
     let a = rs.a;
     let b = rs.b;
     let c = rs.c;
+    let d = rs.d;
     if 1 <= rs.n {
         print_report(a);
     }
@@ -82,6 +83,9 @@ fn print_reports(rs: Reports) {
     }
     if 3 <= rs.n {
         print_report(c);
+    }
+    if 4 <= rs.n {
+        print_report(d);
     }
 }
 

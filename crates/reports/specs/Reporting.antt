@@ -17,12 +17,12 @@ use Rattle.reports.specs.declared.Run.{Run}
 abbrev pub noReport : Report
 noReport = record { first = 0; bytes = 0; time = micros 0; number = 0; reason = 0 }
 
--- the places for the reports of an event: "At most three per event"
+-- the places for the reports of an event: "At most three per event", and four with document 02's "Five" ("one event may now give four reports")
 abbrev pub places : ℕ
-places = 3
+places = 4
 
 abbrev pub noReports : Reports
-noReports = record { a = noReport; b = noReport; c = noReport; n = 0 }
+noReports = record { a = noReport; b = noReport; c = noReport; d = noReport; n = 0 }
 
 -- Reports 1 to 5 name the bytes held, 6, 7 and 8 none. (0 is no report, and is not asked.)
 unfoldable pub namesBytes : ℕ → Bool
@@ -42,13 +42,14 @@ reportOf r number reason = record {
 -- after the others, in the next place; where all places are taken, nothing
 unfoldable pub appended : Reports → Report → Reports
 appended rs r =
-    if eqb (rs .n) 0 then record { a = r; b = rs .b; c = rs .c; n = 1 } else
-    if eqb (rs .n) 1 then record { a = rs .a; b = r; c = rs .c; n = 2 } else
-    if eqb (rs .n) 2 then record { a = rs .a; b = rs .b; c = r; n = 3 } else rs
+    if eqb (rs .n) 0 then record { a = r; b = rs .b; c = rs .c; d = rs .d; n = 1 } else
+    if eqb (rs .n) 1 then record { a = rs .a; b = r; c = rs .c; d = rs .d; n = 2 } else
+    if eqb (rs .n) 2 then record { a = rs .a; b = rs .b; c = r; d = rs .d; n = 3 } else
+    if eqb (rs .n) 3 then record { a = rs .a; b = rs .b; c = rs .c; d = r; n = 4 } else rs
 
 -- the places in order, ..
 abbrev pub inPlaces : Reports → List Report
-inPlaces rs = rs .a ∷ rs .b ∷ rs .c ∷ []
+inPlaces rs = rs .a ∷ rs .b ∷ rs .c ∷ rs .d ∷ []
 
 -- .. and the reports, which are those in the first n
 unfoldable pub listed : Reports → List Report

@@ -72,19 +72,23 @@ fn count_one(c: Counts, x: Report) -> Counts
 fn count_all(c: Counts, rs: Reports) -> Counts
     ensures { λ r. ⌜ r ≡ countedAll c (listed rs) ⌝ }
 {
-    let x = rs.a;
-    let y = rs.b;
-    let z = rs.c;
+    let w = rs.a;
+    let x = rs.b;
+    let y = rs.c;
+    let z = rs.d;
     if rs.n == 0 {
         return c;
     }
     if rs.n == 1 {
-        return count_one(c, x);
+        return count_one(c, w);
     }
     if rs.n == 2 {
-        return count_one(count_one(c, x), y);
+        return count_one(count_one(c, w), x);
     }
-    count_one(count_one(count_one(c, x), y), z)
+    if rs.n == 3 {
+        return count_one(count_one(count_one(c, w), x), y);
+    }
+    count_one(count_one(count_one(count_one(c, w), x), y), z)
 }
 
 // A byte is heard, or none.

@@ -22,13 +22,14 @@ pub struct Report {
 }
 
 // The places for the reports of an event.
-pub const PLACES: usize = 3;
+pub const PLACES: usize = 4;
 
 // The reports of an event: those in the first n places.
 pub struct Reports {
     pub a: Report,
     pub b: Report,
     pub c: Report,
+    pub d: Report,
     pub n: u8,
 }
 

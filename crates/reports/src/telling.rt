@@ -29,6 +29,7 @@ pub fn no_reports() -> Reports
         a: no_report(),
         b: no_report(),
         c: no_report(),
+        d: no_report(),
         n: 0,
     }
 }
@@ -73,6 +74,11 @@ fn append(rs: Reports, r: Report) -> Reports
     if rs.n == 2 {
         to.n = 3;
         to.c = r;
+        return to;
+    }
+    if rs.n == 3 {
+        to.n = 4;
+        to.d = r;
         return to;
     }
     rs

@@ -9,7 +9,8 @@ use Rattle.base.specs.Sums.{byteSum}
 use Rattle.base.specs.Reports.{noReason, wrongSide, tooEarly, misfit}
 use Rattle.units.specs.Units.{micros, isEarlier}
 use Rattle.units.specs.declared.Micros.{Micros}
-use Rattle.keys.specs.Keys.{goodPair, pairOf, isGood}
+use Rattle.keys.specs.Keys.{pairOf, isGood}
+use Rattle.keys.specs.Editions.{isSlowPair}
 use Rattle.events.specs.Events.{sameSide}
 use Rattle.events.specs.declared.Side.{Side}
 use Rattle.events.specs.declared.Side.the-variants.{Tester, Unit}
@@ -70,11 +71,11 @@ unfoldable pub isReplyFormat : ℕ → Bool
 isReplyFormat v = eqb v 0x03 || eqb v 0x00 || eqb v 0x83 || eqb v 0x80
 
 -- "Each byte is judged as it comes, but checksum and pair both at the checksum byte." "Layout isn't checked against KB1 here, and the addresses may
--- be any." KB1 of a slow start is judged with KB2.
+-- be any." KB1 of a slow start is judged with KB2; after address 33 a car's pair will do too (document 02, "Five"), but "Fast starts still need 14230 key bytes".
 abbrev pub fitsAt : Stage → Start → ℕ → Bool
 fitsAt Sync s v = eqb v 0x55
 fitsAt FirstKey s v = true
-fitsAt SecondKey s v = goodPair (s .pair .kb1) v
+fitsAt SecondKey s v = isSlowPair (s .address) (pairOf (s .pair .kb1) v)
 fitsAt KeyBack s v = eqb v (complement (s .pair .kb2))
 fitsAt AddressBack s v = eqb v (complement (s .address))
 fitsAt AskFormat s v = (eqb v 0x81 || eqb v 0xC1)

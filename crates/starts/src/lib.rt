@@ -151,10 +151,14 @@ fn is_fitting(s: Start, v: u8) -> bool
     ensures { λ r. ⌜ r ≡ fits s v ⌝ }
 {
     let stage = s.stage;
+    let pair = Pair {
+        kb1: s.pair.kb1,
+        kb2: v,
+    };
     match stage {
         Stage::Sync => v == 0x55,
         Stage::FirstKey => true,
-        Stage::SecondKey => keys::good_pair(s.pair.kb1, v),
+        Stage::SecondKey => keys::is_slow_pair(s.address, pair),
         Stage::KeyBack => v == inverse(s.pair.kb2),
         Stage::AddressBack => v == inverse(s.address),
         Stage::AskFormat => (v == 0x81) | (v == 0xC1),

@@ -1,2 +1,3 @@
+pub mod Cars
 pub mod Talk
 pub mod Messages

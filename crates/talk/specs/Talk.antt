@@ -1,5 +1,5 @@
 -- Messages of a connected link, byte by byte, and what a frame does (document 01, "Connected."; ISO 14230-2, clause 4). No byte of a message is kept but
--- its first seven data bytes.
+-- its first seven data bytes. A car's message (document 02, "Five") is one whose part is `Free`; what is its own stands in Cars.antt.
 -- Assumes nothing.
 use Prim.Native.Nat.{ℕ, _+_, _-_, _*_, _/_, _%_, _^_}
 use mathlib.Core.Bool.{Bool, true, false, not, _&&_, _||_}
@@ -13,6 +13,7 @@ use Rattle.base.specs.Reports.{noReason, brokenOff, early, stray, modeOne, wron
 use Rattle.units.specs.Units.{isEarlier}
 use Rattle.units.specs.declared.Micros.{Micros}
 use Rattle.keys.specs.Keys.{takesForm, lengthInFormat, extraLength}
+use Rattle.keys.specs.Editions.{editionOf, isCar}
 use Rattle.keys.specs.declared.Form.{Form}
 use Rattle.keys.specs.declared.Form.the-variants.{Plain, Physical, Functional, Foreign}
 use Rattle.keys.specs.declared.Pair.{Pair}
@@ -28,8 +29,9 @@ use Rattle.talk.specs.declared.Reply.the-variants.{Never, First, Further
 use Rattle.talk.specs.declared.Request.{Request}
 use Rattle.talk.specs.declared.Request.the-variants.{Ordinary, Stop, OwnTiming, NewTiming, Stopped}
 use Rattle.talk.specs.declared.Part.{Part}
-use Rattle.talk.specs.declared.Part.the-variants.{Target, Source, Length, Data, Sum}
+use Rattle.talk.specs.declared.Part.the-variants.{Target, Source, Length, Data, Sum, Free}
 use Rattle.talk.specs.declared.Message.{Message}
+use Rattle.talk.specs.Cars.{carBegun, carGrown}
 
 -- ---- the reply that may come
 unfoldable pub isFirst : Reply → Bool
@@ -72,12 +74,18 @@ headReason kb1 f =
     if not (takesForm kb1 (formatForm f)) then wrongForm else
     if placeAnnounced kb1 f then noReason else wrongLength
 
+unfoldable pub frameReason : ℕ → Reply → Windows → Side → ℕ → Micros → ℕ
+frameReason kb1 reply w side f gap =
+    if eqb (turnReason reply w side gap) noReason then headReason kb1 f else turnReason reply w side gap
+
+-- the first byte of a car's message may be early or stray, and no more: "all judged when the gap has passed"
 unfoldable pub firstReason : Pair → Reply → Windows → Side → ℕ → Micros → ℕ
 firstReason pair reply w side f gap =
-    if eqb (turnReason reply w side gap) noReason then headReason (pair .kb1) f else turnReason reply w side gap
+    if isCar (editionOf pair) then turnReason reply w side gap else frameReason (pair .kb1) reply w side f gap
 
 -- ---- a message: whose it is, the part that its next byte is, whether a length byte is among its parts, its length, how many data bytes have come,
--- the sum of all bytes, the first data byte and the first seven of them. `why` is the reason of damage.
+-- the sum of all bytes, the first data byte and the first seven of them. `why` is the reason of damage. (Of a car's message: how many bytes have come, their
+-- sum, and in `why` the reason that it would be damage for if it ended here.)
 -- A frame's layout is `frame`'s: target and source in forms that carry them, then the length byte if any, the data, the checksum.
 unfoldable pub afterAddresses : Bool → Part
 afterAddresses extra = if extra then Length else Data
@@ -101,6 +109,10 @@ begun side f = record {
   why = noReason;
 }
 
+-- under these key bytes
+unfoldable pub begunBy : Pair → Side → ℕ → Message
+begunBy pair side f = if isCar (editionOf pair) then carBegun side f else begun side f
+
 -- ---- a later byte: "other side (7), length byte 0 (8), wrong checksum (9)"
 abbrev pub partReason : Part → Message → ℕ → ℕ
 partReason Target m v = noReason
@@ -108,6 +120,7 @@ partReason Source m v = noReason
 partReason Length m v = if eqb v 0 then wrongLength else noReason
 partReason Data m v = noReason
 partReason Sum m v = if eqb v (m .sum) then noReason else wrongSum
+partReason Free m v = noReason
 
 unfoldable pub laterReason : Message → Side → ℕ → ℕ
 laterReason m side v = if not (sameSide side (m .side)) then otherSide else partReason (m .part) m v
@@ -119,10 +132,19 @@ isSum Source = false
 isSum Length = false
 isSum Data = false
 isSum Sum = true
+isSum Free = false
 
--- the reason of a message that is held and ends because 20 ms have passed, under these key bytes: "report 2, reason 1"
-abbrev pub endReason : Pair → ℕ
-endReason pair = brokenOff
+-- the reason of a message that is held and ends because 20 ms have passed: "report 2, reason 1". A car's message is judged then, and may be right (0).
+unfoldable pub isFree : Part → Bool
+isFree Target = false
+isFree Source = false
+isFree Length = false
+isFree Data = false
+isFree Sum = false
+isFree Free = true
+
+unfoldable pub endReason : Message → ℕ
+endReason m = if isFree (m .part) then m .why else brokenOff
 
 -- bytes as one number, the first in front
 abbrev pub number : List ℕ → ℕ
@@ -184,6 +206,7 @@ grownAt Source m v = withPart m (afterAddresses (m .extra)) v
 grownAt Length m v = withLength m v
 grownAt Data m v = withData m v
 grownAt Sum m v = withPart m Sum v
+grownAt Free m v = carGrown m v
 
 unfoldable pub grown : Message → ℕ → Message
 grown m v = grownAt (m .part) m v

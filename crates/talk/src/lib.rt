@@ -1,9 +1,11 @@
 // Messages of a connected link, byte by byte, and what a frame does.
+mod cars;
+
 ghost use mathlib.Core.Path.{_≡_};
 ghost use mathlib.Core.List.{[], _∷_};
 ghost use Rattle.talk.specs.Talk.{isFirst, testerTurn, isStray, isHasty, unitTurn, turnReason};
-ghost use Rattle.talk.specs.Talk.{hasExtra, placeAnnounced, headReason, firstReason};
-ghost use Rattle.talk.specs.Talk.{afterAddresses, partAfterFormat, begun, partReason, laterReason, isSum};
+ghost use Rattle.talk.specs.Talk.{hasExtra, placeAnnounced, headReason, frameReason, firstReason};
+ghost use Rattle.talk.specs.Talk.{afterAddresses, partAfterFormat, begun, begunBy, partReason, laterReason, isSum, isFree, endReason};
 ghost use Rattle.talk.specs.Talk.{withSeven, afterData, withPart, withLength, withData, grown};
 ghost use Rattle.talk.specs.Talk.{isExactly, asksCodes, requestOf, isEffective, codesIn, ifAllowed, windowsFor, windowsAfter};
 ghost use Rattle.talk.specs.Talk.{spent, requestAfter, isStopped};
@@ -49,11 +51,14 @@ pub enum Part {
     Length,
     Data,
     Sum,
+    // any byte of a car's message, which has no length
+    Free,
 }
 
 // A message being heard: its first seven data bytes as one number, whose it is, the part that is
 // next, whether it has a length byte, its length, the data bytes so far, the sum of all bytes, the
-// first data byte; and the reason of damage.
+// first data byte; and the reason of damage. Of a car's message: its bytes so far, their sum, and
+// the reason that it is damage for if it ends here.
 pub struct Message {
     pub seven: u64,
     pub side: Side,
@@ -162,15 +167,25 @@ fn head_reason(kb1: u8, f: u8) -> u8
     base::reason::WRONG_LENGTH
 }
 
-// The reason against the first byte of a message, so long after the mark, or 0.
-pub fn first_reason(pair: Pair, reply: Reply, w: Windows, side: Side, f: u8, gap: Micros) -> u8
-    ensures { λ r. ⌜ r ≡ firstReason pair reply w side f gap ⌝ }
+// The reason against the first byte of a message of a 14230 link, so long after the mark, or 0.
+pub fn frame_reason(kb1: u8, reply: Reply, w: Windows, side: Side, f: u8, gap: Micros) -> u8
+    ensures { λ r. ⌜ r ≡ frameReason kb1 reply w side f gap ⌝ }
 {
     let turn = turn_reason(reply, w, side, gap);
     if turn == base::reason::NONE {
-        return head_reason(pair.kb1, f);
+        return head_reason(kb1, f);
     }
     turn
+}
+
+// The same, of either edition.
+pub fn first_reason(pair: Pair, reply: Reply, w: Windows, side: Side, f: u8, gap: Micros) -> u8
+    ensures { λ r. ⌜ r ≡ firstReason pair reply w side f gap ⌝ }
+{
+    if keys::is_car(pair) {
+        return turn_reason(reply, w, side, gap);
+    }
+    frame_reason(pair.kb1, reply, w, side, f, gap)
 }
 
 // The part after the addresses.
@@ -195,8 +210,8 @@ fn part_after_format(form: Form, extra: bool) -> Part
     }
 }
 
-// A message just begun with its format byte.
-pub fn begin(side: Side, f: u8) -> Message
+// A message of a 14230 link, just begun with its format byte.
+pub fn begin_frame(side: Side, f: u8) -> Message
     ensures { λ r. ⌜ r ≡ begun side f ⌝ }
 {
     let extra = has_extra(f);
@@ -213,6 +228,16 @@ pub fn begin(side: Side, f: u8) -> Message
     }
 }
 
+// A message just begun, of either edition.
+pub fn begin(pair: Pair, side: Side, f: u8) -> Message
+    ensures { λ r. ⌜ r ≡ begunBy pair side f ⌝ }
+{
+    if keys::is_car(pair) {
+        return cars::begin_car(side, f);
+    }
+    begin_frame(side, f)
+}
+
 // The reason against a byte of the message's own side.
 fn part_reason(m: Message, v: u8) -> u8
     ensures { λ r. ⌜ r ≡ partReason (m .part) m v ⌝ }
@@ -224,6 +249,7 @@ fn part_reason(m: Message, v: u8) -> u8
         Part::Length => base::either(v == 0, base::reason::WRONG_LENGTH, base::reason::NONE),
         Part::Data => base::reason::NONE,
         Part::Sum => base::either(v == m.sum, base::reason::NONE, base::reason::WRONG_SUM),
+        Part::Free => base::reason::NONE,
     }
 }
 
@@ -249,7 +275,33 @@ pub fn is_sum(part: Part) -> bool
         Part::Length => false,
         Part::Data => false,
         Part::Sum => true,
+        Part::Free => false,
     }
+}
+
+// Whether a message is a car's.
+fn is_free(part: Part) -> bool
+    ensures { λ r. ⌜ r ≡ isFree part ⌝ }
+{
+    match part {
+        Part::Target => false,
+        Part::Source => false,
+        Part::Length => false,
+        Part::Data => false,
+        Part::Sum => false,
+        Part::Free => true,
+    }
+}
+
+// The reason of a message that ends because 20 ms have passed, or 0.
+pub fn end_reason(m: Message) -> u8
+    ensures { λ r. ⌜ r ≡ endReason m ⌝ }
+{
+    let part = m.part;
+    if is_free(part) {
+        return m.why;
+    }
+    base::reason::BROKEN_OFF
 }
 
 // The first seven data bytes, with the one at an index.
@@ -338,6 +390,7 @@ pub fn grow(m: Message, v: u8) -> Message
         Part::Length => with_length(m, v),
         Part::Data => with_data(m, v),
         Part::Sum => with_part(m, Part::Sum, v),
+        Part::Free => cars::grow_car(m, v),
     }
 }
 

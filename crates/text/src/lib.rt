@@ -70,7 +70,11 @@ fn write_reports(out: &mut [u8], at: usize, rs: Reports) -> usize
     if rs.n == 2 {
         return b;
     }
-    put_report(out, b, rs.c)
+    let c = put_report(out, b, rs.c);
+    if rs.n == 3 {
+        return c;
+    }
+    put_report(out, c, rs.d)
 }
 
 // The reports of an event, a line for each: at most REPORTS_MOST bytes.

@@ -12,9 +12,12 @@ use Rattle.base.specs.Numbers.{taken}
 use Rattle.base.proofs.Tests.{and-split, or-split, upTo, at-each, by-test}
 use Rattle.keys.specs.Keys.{isExtended}
 use Rattle.keys.specs.declared.Pair.{Pair}
+use Rattle.keys.specs.Editions.{editionOf}
+use Rattle.keys.specs.declared.Edition.{Edition}
+use Rattle.keys.specs.declared.Edition.the-variants.{Iso14230, Car08, Car94}
 use Rattle.units.specs.Units.{isEarlier}
 use Rattle.units.specs.declared.Micros.{Micros}
-use Rattle.timing.specs.Timing.{isUnlimited, isBelow, setOf, p4max, isAllowed, p2Half, p2MaxOf, p3MaxOf, windowsBy, decodedOf}
+use Rattle.timing.specs.Timing.{isUnlimited, isBelow, namedSet, setIn, setOf, p4max, isAllowed, p2Half, p2MaxOf, p3MaxOf, windowsBy, decodedOf}
 use Rattle.timing.specs.Coded.{Bytes}
 use Rattle.timing.specs.declared.Limit.{Limit}
 use Rattle.timing.specs.declared.Windows.{Windows}
@@ -71,8 +74,16 @@ codes-long c b e =
       p3max-long = p3-long (c .p3max) (windowsBy c .p3min) (omega (arith, b .p3max-byte)) (m .1);
     })
 
+named-long : (kb1 : ℕ) → LongEnough (namedSet kb1)
+unfolding namedSet
+named-long kb1 =
+    by-test LongEnough (isExtended kb1) (λ _. record { p2max-long = lit≤ tt; p3max-long = lit≤ tt }) (λ _. record { p2max-long = lit≤ tt; p3max-long = lit≤ tt })
+
+set-in-long : (edition : Edition) (kb1 : ℕ) → LongEnough (setIn edition kb1)
+set-in-long Iso14230 kb1 = named-long kb1
+set-in-long Car08 kb1 = record { p2max-long = lit≤ tt; p3max-long = lit≤ tt }
+set-in-long Car94 kb1 = record { p2max-long = lit≤ tt; p3max-long = lit≤ tt }
+
 pub set-long : (pair : Pair) → LongEnough (setOf pair)
 unfolding setOf
-set-long pair =
-    by-test LongEnough (isExtended (pair .kb1)) (λ _. record { p2max-long = lit≤ tt; p3max-long = lit≤ tt }) (λ _.
-    record { p2max-long = lit≤ tt; p3max-long = lit≤ tt })
+set-long pair = set-in-long (editionOf pair) (pair .kb1)

@@ -9,7 +9,10 @@ use lib.Dec.{eqb, leb}
 use Rattle.base.specs.Choice.{if_then_else_}
 use Rattle.base.specs.Numbers.{taken, badTiming}
 use Rattle.keys.specs.Keys.{isExtended}
+use Rattle.keys.specs.Editions.{editionOf}
 use Rattle.keys.specs.declared.Pair.{Pair}
+use Rattle.keys.specs.declared.Edition.{Edition}
+use Rattle.keys.specs.declared.Edition.the-variants.{Iso14230, Car08, Car94}
 use Rattle.units.specs.Units.{micros, halfMs, halfBy, step250By, byteOf, microsOfHalf, microsOf250, halfOf, steps25Of, steps250Of, isEarlier, isSame}
 use Rattle.units.specs.declared.Micros.{Micros}
 use Rattle.units.specs.declared.HalfMs.{HalfMs}
@@ -53,9 +56,28 @@ extendedSet = record {
   p4min = micros 5_000;
 }
 
--- the set that key bytes name: KB1's
+-- the set that KB1 names
+unfoldable pub namedSet : ℕ → Windows
+namedSet kb1 = if isExtended kb1 then extendedSet else normalSet
+
+-- "P2 is 25 to 50 ms for 08 08 and 0 to 50 for 94 94; P1, P3 and P4 are the normal ones." (document 02, "Five"): for 08 08 that is the normal set, and for 94 94 ..
+abbrev pub quickSet : Windows
+quickSet = record {
+  p2min = micros 0;
+  p2max = untilTime (micros 50_000);
+  p3min = micros 55_000;
+  p3max = untilTime (micros 5_000_000);
+  p4min = micros 5_000;
+}
+
+-- the set that key bytes name: KB1's, or the car's
+abbrev pub setIn : Edition → ℕ → Windows
+setIn Iso14230 kb1 = namedSet kb1
+setIn Car08 kb1 = normalSet
+setIn Car94 kb1 = quickSet
+
 unfoldable pub setOf : Pair → Windows
-setOf pair = if isExtended (pair .kb1) then extendedSet else normalSet
+setOf pair = setIn (editionOf pair) (pair .kb1)
 
 -- How long the line is idle, from the mark on, before the first address or wake-up. (After what else it is asked: `off`, phases/specs/Phases.antt. Other times:
 -- moves/specs/Moves.antt.)

@@ -1,11 +1,12 @@
 // Timing windows, the five codes that change them, and the two sets that KB1 names.
 ghost use mathlib.Core.Path.{_≡_};
-ghost use Rattle.timing.specs.Timing.{untilTime, noLimit, isUnlimited, isPassed, isBelow, normalSet, extendedSet, setOf, isAllowed};
+ghost use Rattle.timing.specs.Timing.{untilTime, noLimit, isUnlimited, isPassed, isBelow, normalSet, extendedSet, quickSet, namedSet, setOf, isAllowed};
 ghost use Rattle.timing.specs.Timing.{minOf, p2MaxOf, p3MaxOf, windowsBy, notDecoded, decodedOf};
 ghost use Rattle.timing.specs.Timing.{minCode, p2StepsCode, p2Code, p3Code, codesBy, sameWindows, notEncoded, encodedOf};
 
 mod p2max;
 
+use keys::Edition;
 use keys::Pair;
 use units::Micros;
 use units::Step25;
@@ -113,14 +114,39 @@ fn extended_set() -> Windows
     }
 }
 
+// The set of a car with 94 94, which may answer at once.
+fn quick_set() -> Windows
+    ensures { λ r. ⌜ r ≡ quickSet ⌝ }
+{
+    Windows {
+        p2min: Micros(0),
+        p2max: until(Micros(50_000)),
+        p3min: Micros(55_000),
+        p3max: until(Micros(5_000_000)),
+        p4min: Micros(5_000),
+    }
+}
+
+// The set that KB1 names.
+fn named_set(kb1: u8) -> Windows
+    ensures { λ r. ⌜ r ≡ namedSet kb1 ⌝ }
+{
+    if keys::is_extended(kb1) {
+        return extended_set();
+    }
+    normal_set()
+}
+
 // The set that key bytes name, which a connected link starts with.
 pub fn set_of(pair: Pair) -> Windows
     ensures { λ r. ⌜ r ≡ setOf pair ⌝ }
 {
-    if keys::is_extended(pair.kb1) {
-        return extended_set();
+    let edition = keys::edition_of(pair);
+    match edition {
+        Edition::Iso14230 => named_set(pair.kb1),
+        Edition::Car08 => normal_set(),
+        Edition::Car94 => quick_set(),
     }
-    normal_set()
 }
 
 // A minimum by its code.

@@ -16,7 +16,7 @@ use Rattle.link.specs.Stepping.{takenBy}
 use Rattle.link.specs.declared.Link.{Link}
 use Rattle.link.specs.declared.Answer.{Answer}
 use Rattle.link.specs.Telling.{handledTells}
-use Rattle.link.proofs.Three.{three-enough}
+use Rattle.link.proofs.Four.{four-enough}
 use Rattle.text.specs.Text.{headText, endText}
 use Rattle.listing.specs.Listing.{heldOf, listingOf}
 use Rattle.demands.specs.Logs.{Log, heardIn}
@@ -59,7 +59,7 @@ accounted es =
       indexes = tiled-turns (k .tiled);
       counts = k .counts;
       held = held-is es;
-      three = λ e. listed-few (ourAnswer es e .reports);
+      four = λ e. listed-few (ourAnswer es e .reports);
     }
 
 -- no byte is missing from the counts
@@ -78,7 +78,7 @@ pub none-lost : (es : Log) (e : Event) → ourAnswer es e .no ≡ 0
     → listed (ourAnswer es e .reports) ≡ handledTells (after ours es .link) e
 unfolding takenBy
 none-lost es e q =
-    ap (λ (a : Answer). listed (a .reports)) (answer-taken es e (sym (numbers-by-history es e) ∙ q)) ∙ three-enough (after ours es .link) e
+    ap (λ (a : Answer). listed (a .reports)) (answer-taken es e (sym (numbers-by-history es e) ∙ q)) ∙ four-enough (after ours es .link) e
 
 -- up to the text
 pub listing-shows : (input : List ℕ)

@@ -11,7 +11,6 @@ use borrow.Author.Tests.{eqb-true, eqb-false, eq-eqb}
 use Rattle.base.specs.Numbers.{taken}
 use Rattle.base.specs.Reports.{connectedReport}
 use Rattle.units.specs.declared.Micros.{Micros}
-use Rattle.keys.specs.Keys.{isGood}
 use Rattle.keys.specs.declared.Pair.{Pair}
 use Rattle.events.specs.declared.Kind.{Kind}
 use Rattle.events.specs.declared.Kind.the-variants.{Address, WakeUp, Byte, Tick, Drop, Other}
@@ -36,6 +35,7 @@ use Rattle.demands.proofs.Connecting.Running.{startOn, Starts, ownUntil
 use Rattle.demands.proofs.Connecting.SlowStart.{slow-done, done-slow}
 use Rattle.demands.proofs.Connecting.FastStart.{fast-done, done-fast}
 use Rattle.demands.specs.Ours.{ours}
+use Rattle.demands.specs.Editions.{isLinkPair}
 
 -- ---- an initialization that ends on the log is a good one, and the other way round
 module _ (log : Log) (e : Event) (x : Ends log e) where
@@ -70,7 +70,7 @@ module _ (log : Log) (e : Event) (x : Ends log e) where
 
 pub done-of : (m : ℕ) (a : Event) (pair : Pair) (bs : Log) (e : Event) → m ≤ a .start .0
     → SlowStart a pair (bs ▷ e) ⊎ FastStart a pair (bs ▷ e)
-    → Done m a bs e × (startOn a bs .pair ≡ pair) × (isGood pair ≡ true)
+    → Done m a bs e × (startOn a bs .pair ≡ pair) × (isLinkPair pair ≡ true)
 done-of m a pair bs e i (inl s) = done-slow m a pair bs e i s
 done-of m a pair bs e i (inr s) = done-fast m a pair bs e i s
 

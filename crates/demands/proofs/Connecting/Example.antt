@@ -22,6 +22,7 @@ use Rattle.demands.specs.Idle.{idleUntil}
 use Rattle.demands.specs.Histories.{Machine}
 use Rattle.demands.specs.Starts.{IsOne, SlowStart, slow, request, addressed, FastStart, fast}
 use Rattle.demands.specs.Connecting.{here, byte, Connects}
+use Rattle.keys.specs.Editions.{isSlowPair}
 
 -- a byte of 960 microseconds
 abbrev pub byteFrom : Side → ℕ → ℕ → Event
@@ -102,7 +103,7 @@ abbrev pub slowLast : Event
 slowLast = unit 0xCC 5_178_840
 
 pub slow-good : SlowStart slowAddress (pairOf 0xEF 0x8F) (slowBytes ▷ slowLast)
-unfolding goodPair lengthInFormat extraLength noAddresses withAddresses
+unfolding isSlowPair goodPair lengthInFormat extraLength noAddresses withAddresses
 slow-good =
     slow {s = unit 0x55 5_100_000} {one = unit 0xEF 5_110_960} {two = unit 0x8F 5_116_920} {back = tester 0x70 5_147_880} {done = slowLast}
     refl (refl, (omega arith, omega arith), refl) (refl, (omega arith, omega arith), tt) (refl, (omega arith, omega arith), refl)

@@ -30,6 +30,7 @@ use Rattle.demands.proofs.Connecting.Running.{fallBy, startOn, lastEnd,
 use Rattle.demands.proofs.Connecting.Waking.{good-low}
 use Rattle.demands.proofs.Connecting.Staged.{at, placeOf}
 use Rattle.demands.proofs.Connecting.Judging.{Passes, comes, right-of, comes-next, On, on-first, on-more, on-next, on-last, way, done-good}
+use Rattle.demands.specs.Editions.{isLinkPair}
 
 -- a byte with any value after another: the tester's, and the unit's
 abbrev TesterNext : Event → Event → Type 0
@@ -298,8 +299,12 @@ on-header m w bs h n i (addressed-long {bs = rq} {c = c} {f = f} {t = t} {s = s}
     on-length m w (rq ▷ f ▷ t) s len (x3 m w rq c f i r p t s p2 p3) (f .value + t .value + s .value)
     (on-long m w rq c f i r p t s p2 p3 (on-format m w rq c f i r p LongTarget (ap afterFormat v))) p4 (sum3 m w rq c f i r p t s p2 p3)
 
+good-links : (pair : Pair) → isGood pair ≡ true → isLinkPair pair ≡ true
+unfolding isLinkPair
+good-links pair g = rw g refl
+
 pub done-fast : (m : ℕ) (w : Event) (pair : Pair) (bs : Log) (b : Event) → m ≤ w .start .0 → FastStart w pair (bs ▷ b)
-    → Done m w bs b × (startOn w bs .pair ≡ pair) × (isGood pair ≡ true)
+    → Done m w bs b × (startOn w bs .pair ≡ pair) × (isLinkPair pair ≡ true)
 unfolding dueAt onward isLast byteSum
 done-fast m w pair bs b i (fast {bs = hs} {h = h} {service = service} {one = one} {two = two} {n = n} hd p1 p2 p3 p4) =
     let H = on-header m w hs h n i hd in
@@ -314,5 +319,5 @@ done-fast m w pair bs b i (fast {bs = hs} {h = h} {service = service} {one = one
     let o3 = on-next m w (hs ▷ service ▷ one) (at 0 KeyTwo y2 (one .value) 0) two (one .end) refl refl o2 p3 refl in (
       on-last m w (hs ▷ service ▷ one ▷ two) (at 0 Sum y3 (one .value) (two .value)) b (two .end) refl refl o3 (p4 .0, p4 .1, (sum, p4 .2 .1)) refl,
       ap (λ (s : Start). s .pair) (o3 .at),
-      p4 .2 .1,
+      good-links _ (p4 .2 .1),
     )

@@ -2,7 +2,7 @@
 -- the place that is due is the one that the run's stage means. Both follow byte by byte: each of the five is right at its place exactly if it passes.
 -- Assumes nothing.
 use Prim.Native.Nat.{ℕ, _≤_}
-use mathlib.Core.Bool.{true, false, false≢true}
+use mathlib.Core.Bool.{true, false, false≢true, Bool, _||_, _&&_}
 use mathlib.Core.Path.{_≡_, _∙_, refl, sym, ap}
 use Rattle.base.specs.Choice.{if_then_else_}
 use Rattle.keys.specs.Keys.{isGood}
@@ -18,15 +18,18 @@ use Rattle.demands.specs.Starts.{Right, sync, keyOne, keyTwo, keyBack, S
 use Rattle.demands.proofs.Connecting.Running.{fallBy, startOn, lastEnd, Starts, Runs, Done}
 use Rattle.demands.proofs.Connecting.Staged.{at, placeOf}
 use Rattle.demands.proofs.Connecting.Judging.{Passes, comes-next, on-first, on-next, on-last, way, done-good}
+use Rattle.keys.specs.Editions.{isSlowPair, carAddress, isCar, editionOf}
+use Rattle.demands.specs.Editions.{isLinkPair}
+use lib.Dec.{eqb}
 
 -- ---- the stages on the way, each with the bytes that lead to it (what the sum is at does not matter)
 data SoFar (a : Event) : Log → Start → Type 0 where
   s0 : {x : ℕ} → SoFar a none (at (a .value) Sync x 0 0)
   s1 : {x : ℕ} {s : Event} → Right sync (a .end) s → SoFar a (none ▷ s) (at (a .value) FirstKey x 0 0)
   s2 : {x : ℕ} {s one : Event} → Right sync (a .end) s → Right keyOne (s .end) one → SoFar a (none ▷ s ▷ one) (at (a .value) SecondKey x (one .value) 0)
-  s3 : {x : ℕ} {s one two : Event} → Right sync (a .end) s → Right keyOne (s .end) one → Right (keyTwo (one .value)) (one .end) two
+  s3 : {x : ℕ} {s one two : Event} → Right sync (a .end) s → Right keyOne (s .end) one → Right (keyTwo (a .value) (one .value)) (one .end) two
       → SoFar a (none ▷ s ▷ one ▷ two) (at (a .value) KeyBack x (one .value) (two .value))
-  s4 : {x : ℕ} {s one two back : Event} → Right sync (a .end) s → Right keyOne (s .end) one → Right (keyTwo (one .value)) (one .end) two
+  s4 : {x : ℕ} {s one two back : Event} → Right sync (a .end) s → Right keyOne (s .end) one → Right (keyTwo (a .value) (one .value)) (one .end) two
       → Right (keyBack (two .value)) (two .end) back → SoFar a (none ▷ s ▷ one ▷ two ▷ back) (at (a .value) AddressBack x (one .value) (two .value))
 
 -- ---- from the run to the bytes
@@ -76,9 +79,19 @@ slow-place m a bs k r =
     ap (λ (x : Kind). if isAddress x then dueSlow (a .value) (eventsOf bs) else dueFast (eventsOf bs)) k
     ∙ place-by a bs (startOn a bs) (way Address SoFar first one-more m a bs k r)
 
+-- a pair that is right in a slow start is one that a link connects with
+or-second : (a b c : Bool) → (a || (b && c)) ≡ true → (a || c) ≡ true
+or-second true b c h = refl
+or-second false true c h = h
+or-second false false c h = absurd (false≢true h)
+
+slow-pair : (address : ℕ) (pair : Pair) → isSlowPair address pair ≡ true → isLinkPair pair ≡ true
+unfolding isSlowPair isLinkPair
+slow-pair address pair h = or-second (isGood pair) (eqb address carAddress) (isCar (editionOf pair)) h
+
 -- ---- and from the bytes to the run
 pub done-slow : (m : ℕ) (a : Event) (pair : Pair) (bs : Log) (b : Event) → m ≤ a .start .0 → SlowStart a pair (bs ▷ b)
-    → Done m a bs b × (startOn a bs .pair ≡ pair) × (isGood pair ≡ true)
+    → Done m a bs b × (startOn a bs .pair ≡ pair) × (isLinkPair pair ≡ true)
 unfolding dueAt onward isLast slowStart
 done-slow m a pair bs b i (slow {s = s} {one = one} {two = two} {back = back} k p1 p2 p3 p4 p5) =
     let b1 = none ▷ s in
@@ -96,5 +109,5 @@ done-slow m a pair bs b i (slow {s = s} {one = one} {two = two} {back = back} k 
     let o4 = on-next m a b3 t3 back (two .end) refl refl o3 p4 refl in (
       on-last m a (b3 ▷ back) t4 b (back .end) refl refl o4 p5 refl,
       ap (λ (x : Start). x .pair) (o4 .at),
-      p3 .2,
+      slow-pair (a .value) _ (p3 .2),
     )

@@ -28,7 +28,7 @@ at address stage sum kb1 kb2 = record { pair = pairOf kb1 kb2; address = address
 abbrev placeAt : Stage → Start → Place
 placeAt Sync s = sync
 placeAt FirstKey s = keyOne
-placeAt SecondKey s = keyTwo (s .pair .kb1)
+placeAt SecondKey s = keyTwo (s .address) (s .pair .kb1)
 placeAt KeyBack s = keyBack (s .pair .kb2)
 placeAt AddressBack s = addressBack (s .address)
 placeAt AskFormat s = asks

@@ -2,10 +2,10 @@
 -- they give none, a message was held, and is broken off or closed.
 -- Assumes nothing.
 use Prim.Native.Nat.{ℕ, _+_, _-_, _<_}
-use mathlib.Core.Bool.{Bool, true, false}
-use mathlib.Core.List.{[], _++_, append-nil}
-use mathlib.Core.Path.{_≡_, refl, sym, ap, ap₂, _∙_, subst}
-use mathlib.Core.Logic.{_↔_, inr}
+use mathlib.Core.Bool.{Bool, true, false, _||_, false≢true}
+use mathlib.Core.List.{[], _++_, append-nil, _∷_}
+use mathlib.Core.Path.{_≡_, refl, sym, ap, ap₂, _∙_, subst, subst₂}
+use mathlib.Core.Logic.{_↔_, inr, _⊎_, inl}
 use native.Mathlib.Omega.{arith}
 use lib.ListN.{take, drop, length-drop}
 use lib.Seq.{take-all, getD-drop}
@@ -13,61 +13,79 @@ use Rattle.base.specs.Choice.{if_then_else_}
 use Rattle.base.specs.Reports.{damageReport, noReason, brokenOff, closed, early, stray}
 use Rattle.units.specs.Units.{gapOf}
 use Rattle.units.specs.declared.Micros.{Micros}
+use Rattle.events.specs.declared.Kind.the-variants.{Address, WakeUp, Tick, Drop, Other}
 use Rattle.events.specs.declared.Event.{Event}
-use Rattle.phases.specs.Phases.{isHeld}
+use Rattle.phases.specs.Phases.{isHeld, noWindows}
 use Rattle.phases.specs.declared.Phase.{Phase}
 use Rattle.moves.specs.Moves.{lossReason, isSilent}
 use Rattle.reports.specs.declared.Report.{Report}
 use Rattle.link.specs.declared.Link.{Link}
-use Rattle.demands.specs.Logs.{Log, _▷_, bytesOf, heardIn, takenOf, InBytes, more}
+use Rattle.demands.specs.Logs.{valuesOf, Log, _▷_, bytesOf, heardIn, takenOf, InBytes, more, lastSide}
 use Rattle.demands.specs.Refusals.{Not}
 use Rattle.demands.specs.Histories.{after, reportsTo, Among}
 use Rattle.demands.specs.Sessions.{Talk, SomeSession, gapBefore, Early, Stray, Turns}
 use Rattle.demands.specs.Accounts.{bytesNamed}
-use Rattle.demands.specs.Editions.{reasonAtEnd}
-use Rattle.demands.specs.Damage.{valuesOf, reasonIn, GoesBy, Damaged}
+use Rattle.demands.specs.Editions.{reasonAtEnd, ofCar, carFault}
+use Rattle.demands.specs.Damage.{reasonIn, GoesBy, Damaged}
 use Rattle.demands.proofs.Histories.Basics.{basics}
 use Rattle.demands.proofs.Histories.BytesAsEvents.{talkBehind, values-drop, same-values, same-length}
 use Rattle.demands.proofs.Damage.Faults.{reasons-agree}
 use Rattle.demands.proofs.Histories.BytesHeard.{Bytes, heard-bytes}
-use Rattle.demands.proofs.Sessions.SessionLasts.{reasonWith, Opened, same-loss}
+use Rattle.demands.proofs.Sessions.SessionLasts.{Holds, reasonWith, Opened, same-loss}
 use Rattle.demands.proofs.Sessions.SessionEvent.{session-at}
 use Rattle.demands.proofs.Sessions.FramesRead.{comes-in}
 use Rattle.demands.proofs.Endings.DownsExactly.{same-gap}
-use Rattle.demands.proofs.Sessions.OpeningByte.{silent-is, Came, came, front-bytes}
-use Rattle.demands.proofs.Damage.DamageExactly.{Loses, damage-at}
+use Rattle.demands.proofs.Sessions.OpeningByte.{EarlyBy, StrayBy, silent-is, Came, came, front-bytes}
+use Rattle.demands.proofs.Sessions.CarMessages.{free-car, car-verdict, end-elsewhere}
+use Rattle.demands.proofs.Moves.Causes.{false-of}
+use Rattle.demands.proofs.Damage.DamageExactly.{heldWhy, Loses, damage-at}
 use Rattle.demands.specs.Ours.{ours}
+use Rattle.events.specs.Events.{isByte}
+use Rattle.events.specs.declared.Kind.the-variants.{Byte}
+use Rattle.talk.specs.Talk.{endReason, isFree}
+use Rattle.events.specs.declared.Kind.{Kind}
+use Rattle.timing.specs.declared.Windows.{Windows}
+use Rattle.talk.specs.declared.Reply.{Reply}
 
--- ---- a phase's reason, by its bytes and by whether 20 ms have passed
-abbrev heldWhy : Micros → ℕ
-heldWhy gap = if isSilent gap then brokenOff else closed
-
-held-not : (k : ℕ) (gap : Micros) → (brokenOff ≡ k → ⊥) → (closed ≡ k → ⊥) → heldWhy gap ≡ k → ⊥
-held-not k gap f g = by-silence (isSilent gap)
+-- ---- a phase's reason, by its bytes and by whether 20 ms have passed or a byte has come
+held-ended : (l : Link) (e : Event) → (20_000 < gapOf (l .mark) (e .start) .0) ⊎ (e .kind ≡ Byte) → heldWhy l e ≡ endReason (l .phase .message)
+unfolding isByte
+held-ended l e (inl h) = rw (silent-is (gapOf (l .mark) (e .start)) .1 h) refl
+held-ended l e (inr k) = rw (ap isByte k) (by-silence (isSilent (gapOf (l .mark) (e .start))))
   where
-    by-silence : (c : Bool) → (if c then brokenOff else closed) ≡ k → ⊥
-    by-silence true q = f q
-    by-silence false q = g q
+    by-silence : (c : Bool) → (if c || true then endReason (l .phase .message) else closed) ≡ endReason (l .phase .message)
+    by-silence true = refl
+    by-silence false = refl
 
-held-broken : (gap : Micros) → 20_000 < gap .0 → heldWhy gap ≡ brokenOff
-held-broken gap h = rw (silent-is gap .1 h) refl
+byte-is : (k : Kind) → isByte k ≡ true → k ≡ Byte
+unfolding isByte
+byte-is Address h = absurd (false≢true h)
+byte-is WakeUp h = absurd (false≢true h)
+byte-is Byte h = refl
+byte-is Tick h = absurd (false≢true h)
+byte-is Drop h = absurd (false≢true h)
+byte-is Other h = absurd (false≢true h)
 
-held-closed : (gap : Micros) → Not (20_000 < gap .0) → heldWhy gap ≡ closed
-held-closed gap n = by-silence (isSilent gap) refl
-  where
-    by-silence : (c : Bool) → isSilent gap ≡ c → (if c then brokenOff else closed) ≡ closed
-    by-silence true s = absurd (n (silent-is gap .0 s))
-    by-silence false s = refl
+held-closed : (l : Link) (e : Event) → Not (20_000 < gapOf (l .mark) (e .start) .0) → Not (e .kind ≡ Byte) → heldWhy l e ≡ closed
+held-closed l e n k =
+    let g = false-of (isSilent (gapOf (l .mark) (e .start))) (λ s. n (silent-is (gapOf (l .mark) (e .start)) .0 s)) in
+    let b = false-of (isByte (e .kind)) (λ z. k (byte-is (e .kind) z)) in
+    rw (g, b) refl
 
-goes-by : (p : Phase) (k : ℕ) (gap : Micros) (r : Report) → k ≡ reasonWith p [] → (isHeld (p .state) ≡ false → Not (p .message .why ≡ noReason))
-    → r .reason ≡ lossReason p (heldWhy gap) → GoesBy k brokenOff gap r
+goes-by : (l : Link) (e : Event) (k atEnd : ℕ) (r : Report) → k ≡ reasonWith (l .phase) [] → (isHeld (l .phase .state) ≡ false → Not (l .phase .message .why ≡ noReason))
+    → (isHeld (l .phase .state) ≡ true → endReason (l .phase .message) ≡ atEnd)
+    → r .reason ≡ lossReason (l .phase) (heldWhy l e) → GoesBy k atEnd e (gapOf (l .mark) (e .start)) r
 unfolding talkBehind lossReason
-goes-by p k gap r q n e = by-state (isHeld (p .state)) refl q e
+goes-by l e k atEnd r q n d x = by-state (isHeld (l .phase .state)) refl q x
   where
-    by-state : (c : Bool) → isHeld (p .state) ≡ c → k ≡ (if c then noReason else p .message .why)
-        → r .reason ≡ (if c then heldWhy gap else p .message .why) → GoesBy k brokenOff gap r
-    by-state true s q e = record { wrong = λ z. absurd (z q); ended = λ _ h. e ∙ held-broken gap h; closed = λ _ h. e ∙ held-closed gap h }
-    by-state false s q e = record { wrong = λ _. e ∙ sym q; ended = λ z. absurd (n s (sym q ∙ z)); closed = λ z. absurd (n s (sym q ∙ z)) }
+    by-state : (c : Bool) → isHeld (l .phase .state) ≡ c → k ≡ (if c then noReason else l .phase .message .why)
+        → r .reason ≡ (if c then heldWhy l e else l .phase .message .why) → GoesBy k atEnd e (gapOf (l .mark) (e .start)) r
+    by-state true s q x = record {
+      wrong = λ z. absurd (z q);
+      ended = λ _ h. x ∙ held-ended l e h ∙ d s;
+      closed = λ _ h b. x ∙ held-closed l e h b;
+    }
+    by-state false s q x = record { wrong = λ _. x ∙ sym q; ended = λ z. absurd (n s (sym q ∙ z)); closed = λ z. absurd (n s (sym q ∙ z)) }
 
 -- ---- a report 2 of an event
 module _ (es : Log) (e : Event) (r : Report) (i : InBytes (es ▷ e)) (a : Among r (reportsTo ours es e)) (n : r .number ≡ damageReport) where
@@ -99,17 +117,30 @@ module _ (es : Log) (e : Event) (r : Report) (i : InBytes (es ▷ e)) (a : Among
   abbrev firstGap : Micros
   firstGap = gapBefore (takenOf (opened .before)) (opened .byte)
 
+  -- a message that is held
+  elsewhere : isHeld (l .phase .state) ≡ true → (endReason (l .phase .message) ≡ early → ⊥) × (endReason (l .phase .message) ≡ stray → ⊥)
+  elsewhere h =
+      let x = opened .held h in
+      end-elsewhere (l .phase .start .pair) (opened .byte .side) (x .head) (x .rest) (l .phase .message) (x .gone)
+
   -- its reason is 3 or 4 exactly if the phase has it
-  same-reason : (k : ℕ) → (brokenOff ≡ k → ⊥) → (closed ≡ k → ⊥) → (noReason ≡ k → ⊥)
+  held-not : (k : ℕ) → (isHeld (l .phase .state) ≡ true → endReason (l .phase .message) ≡ k → ⊥) → (closed ≡ k → ⊥) → isHeld (l .phase .state) ≡ true → heldWhy l e ≡ k → ⊥
+  held-not k f g h = by-why (isSilent gap || isByte (e .kind))
+    where
+      by-why : (c : Bool) → (if c then endReason (l .phase .message) else closed) ≡ k → ⊥
+      by-why true q = f h q
+      by-why false q = g q
+
+  same-reason : (k : ℕ) → (isHeld (l .phase .state) ≡ true → endReason (l .phase .message) ≡ k → ⊥) → (closed ≡ k → ⊥) → (noReason ≡ k → ⊥)
       → ((r .number ≡ damageReport) × (r .reason ≡ k)) ↔ (lossReason (l .phase) noReason ≡ k)
   same-reason k f g h =
-      let x = same-loss es e [] (l .phase) (heldWhy gap) k (held-not k gap f g) h in
+      let x = same-loss es e [] (l .phase) (heldWhy l e) k (held-not k f g) h in
       (λ q. x .0 (sym (lost .reason) ∙ q .1), λ q. (n, lost .reason ∙ x .1 q))
 
   turns : Turns ours (es ▷ e) r
   turns =
-      let f = same-reason early (λ z. omega arith) (λ z. omega arith) (λ z. omega arith) in
-      let g = same-reason stray (λ z. omega arith) (λ z. omega arith) (λ z. omega arith) in
+      let f = same-reason early (λ h. elsewhere h .0) (λ z. omega arith) (λ z. omega arith) in
+      let g = same-reason stray (λ h. elsewhere h .1) (λ z. omega arith) (λ z. omega arith) in
       let b = opened .byte in
       record {
         first = record {
@@ -120,9 +151,9 @@ module _ (es : Log) (e : Event) (r : Report) (i : InBytes (es ▷ e)) (a : Among
           opens = opens .opens;
           index = opened .index ∙ sym (lost .index);
         };
-        early = subst (λ (u : Talk). ((r .number ≡ damageReport) × (r .reason ≡ early)) ↔ Early u (u .reply) firstGap b) (opens .same)
+        early = subst₂ (λ (w : Windows) (k : Reply). ((r .number ≡ damageReport) × (r .reason ≡ early)) ↔ EarlyBy w k firstGap b) (opens .alike .windows) (opens .reply)
             (λ q. opened .hasty .0 (f .0 q), λ q. f .1 (opened .hasty .1 q));
-        stray = subst (λ (u : Talk). ((r .number ≡ damageReport) × (r .reason ≡ stray)) ↔ Stray u (u .reply) firstGap b) (opens .same)
+        stray = subst₂ (λ (w : Windows) (k : Reply). ((r .number ≡ damageReport) × (r .reason ≡ stray)) ↔ StrayBy w k firstGap b) (opens .alike .windows) (opens .reply)
             (λ q. opened .astray .0 (g .0 q), λ q. g .1 (opened .astray .1 q));
       }
 
@@ -146,8 +177,39 @@ module _ (es : Log) (e : Event) (r : Report) (i : InBytes (es ▷ e)) (a : Among
   reason-of : Not (Early t (t .reply) firstGap (opened .byte)) → Not (Stray t (t .reply) firstGap (opened .byte))
       → reasonIn (opens .talk .pair) (bytesNamed (bytesOf (takenOf es)) r) ≡ reasonWith (l .phase) []
   reason-of f g =
-      ap₂ reasonIn (sym (ap (λ (u : Talk). u .pair) (opens .same))) names
+      ap₂ reasonIn (sym (opens .alike .pair)) names
       ∙ sym (reasons-agree (t .pair) (drop (l .named) (bytesOf (takenOf es)) ++ []) named-bytes) ∙ opened .reasoned f g []
+
+  -- and a message that ends gets the reason that its bytes give then
+  end-of : isHeld (l .phase .state) ≡ true → endReason (l .phase .message) ≡ reasonAtEnd (opens .talk .pair) (bytesNamed (bytesOf (takenOf es)) r)
+  unfolding reasonAtEnd endReason
+  end-of h = by-car (ofCar (t .pair)) refl
+    where
+      x : Holds es t (opened .byte) (l .phase) (l .named)
+      x = opened .held h
+
+      own : l .phase .start .pair ≡ t .pair
+      own = session-at front (inside .session) .fits .pair
+
+      pairs : opens .talk .pair ≡ t .pair
+      pairs = sym (opens .alike .pair)
+
+      named-values : valuesOf (bytesNamed (bytesOf (takenOf es)) r) ≡ x .head ∷ x .rest
+      named-values =
+          ap valuesOf (names ∙ append-nil (drop (l .named) (bytesOf (takenOf es))))
+          ∙ values-drop (l .named) (bytesOf (takenOf es)) ∙ ap (drop (l .named)) (same-values (takenOf es)) ∙ x .bytes
+
+      named-side : lastSide (bytesNamed (bytesOf (takenOf es)) r) ≡ opened .byte .side
+      named-side = ap lastSide (names ∙ append-nil (drop (l .named) (bytesOf (takenOf es)))) ∙ x .last
+
+      by-car : (c : Bool) → ofCar (t .pair) ≡ c → endReason (l .phase .message) ≡ reasonAtEnd (opens .talk .pair) (bytesNamed (bytesOf (takenOf es)) r)
+      by-car true c =
+          car-verdict (l .phase .start .pair) (opened .byte .side) (x .head) (x .rest) (l .phase .message) (x .gone) (ap ofCar own ∙ c)
+          ∙ sym (rw (ap ofCar pairs ∙ c) (λ j. carFault (named-side j) (named-values j)))
+      by-car false c =
+          let n = false-of (isFree (l .phase .message .part))
+          (λ f. false≢true (sym c ∙ (sym (ap ofCar own) ∙ free-car (l .phase .start .pair) (opened .byte .side) (opened .byte .side) (x .head) (x .rest) (l .phase .message) (x .gone) f))) in
+          rw n (sym (rw (ap ofCar pairs ∙ c) refl))
 
   reasons : Damaged ours es e r
   unfolding turns
@@ -155,11 +217,11 @@ module _ (es : Log) (e : Event) (r : Report) (i : InBytes (es ▷ e)) (a : Among
     turns = turns;
     otherwise = λ f g.
         let bytes = bytesNamed (bytesOf (takenOf es)) r in
-        subst (λ (x : Micros). GoesBy (reasonIn (opens .talk .pair) bytes) (reasonAtEnd (opens .talk .pair) bytes) x r) (same-gap es e t front (inside .session))
-        (goes-by (l .phase) _ gap r
-        (reason-of (λ q. f (subst (λ (u : Talk). Early u (u .reply) firstGap (opened .byte)) (opens .same) q))
-        (λ q. g (subst (λ (u : Talk). Stray u (u .reply) firstGap (opened .byte)) (opens .same) q)))
-        (opened .against) (lost .reason));
+        subst (λ (x : Micros). GoesBy (reasonIn (opens .talk .pair) bytes) (reasonAtEnd (opens .talk .pair) bytes) e x r) (same-gap es e t front (inside .session))
+        (goes-by l e _ _ r
+        (reason-of (λ q. f (subst₂ (λ (w : Windows) (k : Reply). EarlyBy w k firstGap (opened .byte)) (opens .alike .windows) (opens .reply) q))
+        (λ q. g (subst₂ (λ (w : Windows) (k : Reply). StrayBy w k firstGap (opened .byte)) (opens .alike .windows) (opens .reply) q)))
+        (opened .against) end-of (lost .reason));
   }
 
 -- WHY BYTES ARE DAMAGE

@@ -23,16 +23,21 @@ use Rattle.frame.proofs.Lists.{total-append}
 use Rattle.events.specs.Events.{sameSide}
 use Rattle.events.specs.declared.Side.{Side}
 use Rattle.events.specs.declared.Event.{Event}
-use Rattle.talk.specs.Talk.{hasExtra, placeAnnounced, headReason, afterAddresses, partAfterFormat, begun, partReason, laterReason}
+use Rattle.talk.specs.Talk.{hasExtra, placeAnnounced, headReason, afterAddresses, partAfterFormat, begun, partReason, laterReason, begunBy}
 use Rattle.talk.specs.Talk.{afterData, withData, grownAt, grown}
 use Rattle.talk.specs.declared.Part.{Part}
-use Rattle.talk.specs.declared.Part.the-variants.{Target, Source, Length, Data, Sum}
+use Rattle.talk.specs.declared.Part.the-variants.{Target, Source, Length, Data, Sum, Free}
 use Rattle.talk.specs.declared.Message.{Message}
 use Rattle.demands.specs.Frames.{addressesIn, extraByte, sizeSaid}
-use Rattle.demands.specs.Damage.{firstFault, isLengthByte, isChecksum, laterFault, valuesOf, faultAt, reasonBehind, reasonIn}
+use Rattle.demands.specs.Logs.{valuesOf}
+use Rattle.demands.specs.Damage.{firstFault, isLengthByte, isChecksum, laterFault, faultAt, reasonBehind, reasonIn, ofOneSide}
 use Rattle.demands.proofs.Histories.BytesHeard.{Bytes}
-use Rattle.demands.proofs.Histories.BytesAsEvents.{talkBehind, talkReason, values-both}
+use Rattle.demands.proofs.Histories.BytesAsEvents.{talkBehind, talkReason, values-both, valueReason}
 use Rattle.demands.proofs.Sessions.SessionByte.{grown-side}
+use Rattle.talk.specs.Cars.{carGrown, carBegun}
+use Rattle.demands.proofs.Damage.StrayOrEarly.{same-is}
+use Rattle.base.proofs.Tests.{by-test}
+use Rattle.demands.specs.Editions.{ofCar}
 
 -- ---- the first byte
 -- the place of the length: in the format byte, or a byte of its own
@@ -257,7 +262,7 @@ module _ (side : Side) (f : ℕ) where
 
   -- the sum goes on alike at every part
   grown-sum : (m : Message) (v : ℕ) → grown m v .sum ≡ byteSum (m .sum) v
-  unfolding grown withData
+  unfolding grown withData carGrown
   grown-sum m v = by-part (m .part)
     where
       by-part : (part : Part) → grownAt part m v .sum ≡ byteSum (m .sum) v
@@ -266,6 +271,7 @@ module _ (side : Side) (f : ℕ) where
       by-part Length = refl
       by-part Data = refl
       by-part Sum = refl
+      by-part Free = refl
 
   goes-on : (vs : List ℕ) (v : ℕ) (m : Message) (s : Side) → v < 256 → laterReason m s v ≡ noReason → Tracks vs m → Tracks (vs ++ (v ∷ [])) (grown m v)
   goes-on vs v m s h r t = record {
@@ -296,12 +302,49 @@ behind-agree kb1 b before m t (c ∷ cs) h =
     ∙ ap (λ (k : ℕ). if eqb k noReason then reasonBehind kb1 (b ∷ (before ++ (c ∷ []))) cs else k)
     (later-fault (b .side) (b .value) (valuesOf before) m c t)
 
+-- of a car's message only the other side's byte fails as it comes
+free-later : (m : Message) (c : Event) (b : Event) → m .part ≡ Free → m .side ≡ b .side
+    → laterReason m (c .side) (c .value) ≡ (if sameSide (c .side) (b .side) then noReason else otherSide)
+unfolding laterReason
+free-later m c b p s =
+    ap (λ (x : Side). if not (sameSide (c .side) x) then otherSide else partReason (m .part) m (c .value)) s
+    ∙ ap (λ (x : Part). if not (sameSide (c .side) (b .side)) then otherSide else partReason x m (c .value)) p
+    ∙ by-same (sameSide (c .side) (b .side))
+  where
+    by-same : (d : Bool) → (if not d then otherSide else noReason) ≡ (if d then noReason else otherSide)
+    by-same true = refl
+    by-same false = refl
+
+free-agree : (b : Event) (bs : List Event) (m : Message) → m .part ≡ Free → m .side ≡ b .side
+    → talkBehind m bs ≡ (if ofOneSide (b ∷ bs) then noReason else otherSide)
+unfolding talkBehind ofOneSide grown carGrown
+free-agree b [] m p s = refl
+free-agree b (c ∷ cs) m p s =
+    let g : grown m (c .value) .part ≡ Free = rw p refl in
+    by-same (sameSide (c .side) (b .side)) refl
+    (λ d. free-agree c cs (grown m (c .value)) g (grown-side m (c .value) ∙ s ∙ sym (same-is (c .side) (b .side) d)))
+  where
+    chosen : (d : Bool) → sameSide (c .side) (b .side) ≡ d → laterReason m (c .side) (c .value) ≡ (if d then noReason else otherSide)
+    chosen d q = free-later m c b p s ∙ ap {B = ℕ} (λ (x : Bool). if x then noReason else otherSide) q
+
+    by-same : (d : Bool) → sameSide (c .side) (b .side) ≡ d
+        → (sameSide (c .side) (b .side) ≡ true → talkBehind (grown m (c .value)) cs ≡ (if ofOneSide (c ∷ cs) then noReason else otherSide))
+        → talkBehind m (c ∷ cs) ≡ (if d && ofOneSide (c ∷ cs) then noReason else otherSide)
+    by-same true d more = rw (chosen true d) (more d)
+    by-same false d more = rw (chosen false d) refl
+
 -- THE REASON THAT BYTES GIVE by the rules of crates/talk is the one that their values, bits and sides give
 pub reasons-agree : (pair : Pair) (bs : List Event) → Bytes (valuesOf bs) → talkReason pair bs ≡ reasonIn pair bs
-unfolding talkReason reasonBehind faultAt valuesOf
-reasons-agree pair [] h = refl
-reasons-agree pair (b ∷ bs) h =
-    let kb1 = pair .kb1 in
-    same-choice (headReason kb1 (b .value)) _ (reasonBehind kb1 (b ∷ []) bs)
-    (λ _. behind-agree kb1 b [] (begun (b .side) (b .value)) (begins (b .side) (b .value) (h 0)) bs (λ i. h (suc i)))
-    ∙ ap (λ (k : ℕ). if eqb k noReason then reasonBehind kb1 (b ∷ []) bs else k) (head-fault kb1 (b .value))
+unfolding talkReason valueReason begunBy reasonIn reasonBehind faultAt valuesOf ofOneSide carBegun carGrown
+reasons-agree pair [] h = by-test (λ (k : ℕ). noReason ≡ k) (ofCar pair) {x = noReason} {y = noReason} (λ _. refl) (λ _. refl)
+reasons-agree pair (b ∷ bs) h = by-car (ofCar pair) refl
+  where
+    by-car : (c : Bool) → ofCar pair ≡ c
+        → talkReason pair (b ∷ bs) ≡ (if c then if ofOneSide (b ∷ bs) then noReason else otherSide else reasonBehind (pair .kb1) [] (b ∷ bs))
+    by-car true c = rw c (free-agree b bs (carBegun (b .side) (b .value)) refl refl)
+    by-car false c =
+        let kb1 = pair .kb1 in
+        rw c
+        (same-choice (headReason kb1 (b .value)) _ (reasonBehind kb1 (b ∷ []) bs)
+        (λ _. behind-agree kb1 b [] (begun (b .side) (b .value)) (begins (b .side) (b .value) (h 0)) bs (λ i. h (suc i)))
+        ∙ ap (λ (k : ℕ). if eqb k noReason then reasonBehind kb1 (b ∷ []) bs else k) (head-fault kb1 (b .value)))

@@ -24,15 +24,17 @@ use Rattle.events.specs.declared.Kind.the-variants.{Byte, Other}
 use Rattle.events.specs.declared.Side.{Side}
 use Rattle.events.specs.declared.Side.the-variants.{Tester, Unit, Nobody}
 use Rattle.events.specs.declared.Event.{Event}
-use Rattle.talk.specs.Talk.{isFirst, testerTurn, isStray, isHasty, unitTurn, turnReason, placeAnnounced, headReason}
+use Rattle.talk.specs.Talk.{isFirst, testerTurn, isStray, isHasty, unitTurn, turnReason, placeAnnounced, headReason, frameReason}
 use Rattle.talk.specs.Talk.{firstReason, partReason, laterReason}
 use Rattle.talk.specs.declared.Reply.{Reply}
 use Rattle.talk.specs.declared.Reply.the-variants.{Never, First, Further}
 use Rattle.talk.specs.declared.Part.{Part}
-use Rattle.talk.specs.declared.Part.the-variants.{Target, Source, Length, Data, Sum}
+use Rattle.talk.specs.declared.Part.the-variants.{Target, Source, Length, Data, Sum, Free}
 use Rattle.talk.specs.declared.Message.{Message}
 use Rattle.demands.specs.Logs.{Log, numberAfter}
 use Rattle.demands.specs.Sessions.{Talk, inForce, Stray, Early}
+use Rattle.demands.proofs.Histories.BytesAsEvents.{valueReason}
+use Rattle.demands.specs.Editions.{ofCar}
 
 -- ---- choices
 chosen : (b : Bool) (x y : ℕ) → (y ≡ x → ⊥) → (if b then x else y) ≡ x → b ≡ true
@@ -181,6 +183,7 @@ part-elsewhere Length m v =
     by-test Elsewhere (eqb v 0) {x = wrongLength} {y = noReason} (λ _. (λ z. omega arith, λ z. omega arith))
     (λ _. (λ z. omega arith, λ z. omega arith))
 part-elsewhere Data m v = (λ z. omega arith, λ z. omega arith)
+part-elsewhere Free m v = (λ z. omega arith, λ z. omega arith)
 part-elsewhere Sum m v =
     by-test Elsewhere (eqb v (m .sum)) {x = noReason} {y = wrongSum} (λ _. (λ z. omega arith, λ z. omega arith))
     (λ _. (λ z. omega arith, λ z. omega arith))
@@ -190,28 +193,46 @@ unfolding laterReason
 later-elsewhere m side v =
     by-test Elsewhere (not (sameSide side (m .side))) {x = otherSide} (λ _. (λ z. omega arith, λ z. omega arith)) (λ _. part-elsewhere (m .part) m v)
 
+-- a first byte of either edition: early or stray, and else what its value says
+pub first-by : (pair : Pair) (reply : Reply) (w : Windows) (side : Side) (f : ℕ) (gap : Micros)
+    → firstReason pair reply w side f gap ≡ (if eqb (turnReason reply w side gap) noReason then valueReason pair f else turnReason reply w side gap)
+unfolding firstReason frameReason valueReason
+first-by pair reply w side f gap = by-car (ofCar pair) (eqb (turnReason reply w side gap) noReason) refl
+  where
+    by-car : (c d : Bool) → eqb (turnReason reply w side gap) noReason ≡ d
+        → (if c then turnReason reply w side gap else if d then headReason (pair .kb1) f else turnReason reply w side gap)
+        ≡ (if d then if c then noReason else headReason (pair .kb1) f else turnReason reply w side gap)
+    by-car true true z = eqb-true (turnReason reply w side gap) noReason z
+    by-car true false z = refl
+    by-car false d z = refl
+
+value-elsewhere : (pair : Pair) (f : ℕ) → Elsewhere (valueReason pair f)
+unfolding valueReason
+value-elsewhere pair f =
+    by-test Elsewhere (ofCar pair) {x = noReason} {y = headReason (pair .kb1) f} (λ _. (λ z. omega arith, λ z. omega arith)) (λ _. head-elsewhere (pair .kb1) f)
+
 -- THE REASON OF A FIRST BYTE is 3 exactly if it is early, and 4 exactly if it is stray
 module _ (t : Talk) (gap : Micros) (b : Event) (sided : isNobody (b .side) ≡ false) (pair : Pair) where
   reason-by : (k : ℕ) (c : Bool) → eqb (turnReason (t .reply) (inForce t) (b .side) gap) noReason ≡ c → (noReason ≡ k → ⊥)
-      → (headReason (pair .kb1) (b .value) ≡ k → ⊥)
-      → ((if c then headReason (pair .kb1) (b .value) else turnReason (t .reply) (inForce t) (b .side) gap) ≡ k) ↔
+      → (valueReason pair (b .value) ≡ k → ⊥)
+      → ((if c then valueReason pair (b .value) else turnReason (t .reply) (inForce t) (b .side) gap) ≡ k) ↔
       (turnReason (t .reply) (inForce t) (b .side) gap ≡ k)
   reason-by k true c n h = (λ e. absurd (h e), λ e. absurd (n (sym (eqb-true _ noReason c) ∙ e)))
   reason-by k false c n h = (λ e. e, λ e. e)
 
   pub first-early : (firstReason pair (t .reply) (inForce t) (b .side) (b .value) gap ≡ early) ↔ Early t (t .reply) gap b
-  unfolding firstReason
   first-early =
-      let x = reason-by early _ refl (λ z. omega arith) (head-elsewhere (pair .kb1) (b .value) .0) in
+      rw (first-by pair (t .reply) (inForce t) (b .side) (b .value) gap)
+      (let x = reason-by early _ refl (λ z. omega arith) (value-elsewhere pair (b .value) .0) in
       let y = turn-early-by t gap b (b .side) refl sided in
-      (λ e. y .0 (x .0 e), λ e. x .1 (y .1 e))
+      (λ e. y .0 (x .0 e), λ e. x .1 (y .1 e)))
 
   pub first-stray : (firstReason pair (t .reply) (inForce t) (b .side) (b .value) gap ≡ stray) ↔ Stray t (t .reply) gap b
-  unfolding firstReason
   first-stray =
-      let x = reason-by stray _ refl (λ z. omega arith) (head-elsewhere (pair .kb1) (b .value) .1) in
+      rw (first-by pair (t .reply) (inForce t) (b .side) (b .value) gap)
+      (let x = reason-by stray _ refl (λ z. omega arith) (value-elsewhere pair (b .value) .1) in
       let y = turn-stray-by t gap b (b .side) refl sided in
-      (λ e. y .0 (x .0 e), λ e. x .1 (y .1 e))
+      (λ e. y .0 (x .0 e), λ e. x .1 (y .1 e)))
 
 -- neither early nor stray, it gets the reason of its head; and with a right head none
 turn-else : (reply : Reply) (w : Windows) (side : Side) (gap : Micros) → (turnReason reply w side gap ≡ early → ⊥)
@@ -230,25 +251,23 @@ turn-else reply w side gap f g = by-tests (isTester side) (isFirst reply || isEa
     by-tests false b false false f g = refl
 
 pub first-else : (t : Talk) (gap : Micros) (b : Event) → isNobody (b .side) ≡ false → (pair : Pair) → (Early t (t .reply) gap b → ⊥) → (Stray t (t .reply) gap b → ⊥)
-    → firstReason pair (t .reply) (inForce t) (b .side) (b .value) gap ≡ headReason (pair .kb1) (b .value)
-unfolding firstReason
+    → firstReason pair (t .reply) (inForce t) (b .side) (b .value) gap ≡ valueReason pair (b .value)
 first-else t gap b sided pair f g =
     let z = turn-else (t .reply) (inForce t) (b .side) gap (λ q. f (turn-early-by t gap b (b .side) refl sided .0 q))
     (λ q. g (turn-stray-by t gap b (b .side) refl sided .0 q)) in
-    rw (eq-eqb (turnReason (t .reply) (inForce t) (b .side) gap) noReason z) refl
+    first-by pair (t .reply) (inForce t) (b .side) (b .value) gap ∙ rw (eq-eqb (turnReason (t .reply) (inForce t) (b .side) gap) noReason z) refl
 
 pub first-none : (t : Talk) (gap : Micros) (b : Event) → isNobody (b .side) ≡ false → (pair : Pair) → (Early t (t .reply) gap b → ⊥) → (Stray t (t .reply) gap b → ⊥)
-    → headReason (pair .kb1) (b .value) ≡ noReason
+    → valueReason pair (b .value) ≡ noReason
     → firstReason pair (t .reply) (inForce t) (b .side) (b .value) gap ≡ noReason
 first-none t gap b sided pair f g h = first-else t gap b sided pair f g ∙ h
 
 -- where a first byte gets no reason, its head gets none
 pub first-head : (pair : Pair) (reply : Reply) (w : Windows) (side : Side) (f : ℕ) (gap : Micros) → firstReason pair reply w side f gap ≡ noReason
-    → headReason (pair .kb1) f ≡ noReason
-unfolding firstReason
-first-head pair reply w side f gap e = by-turn (eqb (turnReason reply w side gap) noReason) refl e
+    → valueReason pair f ≡ noReason
+first-head pair reply w side f gap e = by-turn (eqb (turnReason reply w side gap) noReason) refl (sym (first-by pair reply w side f gap) ∙ e)
   where
-    by-turn : (c : Bool) → eqb (turnReason reply w side gap) noReason ≡ c → (if c then headReason (pair .kb1) f else turnReason reply w side gap) ≡ noReason
-        → headReason (pair .kb1) f ≡ noReason
+    by-turn : (c : Bool) → eqb (turnReason reply w side gap) noReason ≡ c → (if c then valueReason pair f else turnReason reply w side gap) ≡ noReason
+        → valueReason pair f ≡ noReason
     by-turn true c e = e
     by-turn false c e = absurd (eqb-false _ noReason c e)

@@ -2,28 +2,36 @@
 -- initializations, first bytes, messages. Assumes nothing.
 use Prim.Native.Nat.{ℕ, _+_, _-_, _≤_, _<_}
 use mathlib.Core.List.{List, _++_}
-use mathlib.Core.Logic.{_⊎_}
+use mathlib.Core.Logic.{_⊎_, ⊎-elim, inl, inr}
 use mathlib.Core.Path.{_≡_, refl, sym, ap, _∙_, subst}
 use lib.Dec.{eqb}
 use lib.ListN.{length}
 use Rattle.base.specs.Choice.{if_then_else_}
 use Rattle.base.specs.Numbers.{taken}
-use Rattle.base.specs.Reports.{connectedReport, failedReport, downReport}
+use Rattle.base.specs.Reports.{connectedReport, failedReport, downReport, frameReport}
 use Rattle.base.proofs.Tests.{by-test}
-use Rattle.timing.specs.Timing.{idleAtPowerOn}
+use Rattle.timing.specs.Timing.{idleAtPowerOn, isPassed}
 use Rattle.events.specs.declared.Event.{Event}
 use Rattle.reports.specs.declared.Report.{Report}
-use Rattle.demands.specs.Logs.{Log, none, _▷_, markOf, heardIn, numberAfter, takenOf, Begins, whole, more}
+use Rattle.demands.specs.Logs.{Log, none, _▷_, markOf, heardIn, numberAfter, takenOf, Begins, whole, more, lastSide, bytesOf}
 use Rattle.demands.specs.Refusals.{Not}
-use Rattle.demands.specs.Histories.{Machine, reportsTo, reportsOf, folded, Says, Among}
+use Rattle.demands.specs.Histories.{Machine, reportsTo, reportsOf, folded, Says, Among, isAmong, first}
 use Rattle.demands.specs.Accounts.{namedIn, heldIn}
 use Rattle.demands.specs.Sessions.{Talk, inForce, talkAfter, Session, opens, lasts, OpensIn, EarlyAt, StrayAt, gapBefore, IdleOver, Early, Stray, replyAt}
 use Rattle.demands.specs.Idle.{latestAfter, latestTalk, p3minIn, idleAfter, isDrop, idleIn, askedAfter, idleAsked, idleUntil}
 use Rattle.demands.specs.Connecting.{Since, here, tick, byte, Connects}
 use Rattle.demands.specs.Endings.{Starting, starts, goes-on, AnswersStop}
-use Rattle.demands.specs.Messages.{OpensMessage, Speaks, begins, refused, waits, grows, EndsInFrame}
+use Rattle.demands.specs.Messages.{OpensMessage, Speaks, begins, refused, waits, grows, EndsInFrame, EndsRight, Interrupts}
 use Rattle.demands.proofs.Histories.TakenOnly.{PassesOver, next-same}
 use Rattle.demands.proofs.IdleTimes.AskedTime.{timed}
+use Rattle.demands.specs.Sessions.{replyOnceEnded, replyTo}
+use Rattle.talk.specs.declared.Reply.{Reply}
+use Rattle.demands.specs.Editions.{ofCar, ofQuickCar}
+use mathlib.Core.Bool.{false, true, _&&_, false≢true}
+use Rattle.talk.specs.Talk.{isFirst}
+use Rattle.talk.specs.declared.Reply.the-variants.{Never, First}
+use Rattle.demands.proofs.Sessions.MessageData.{ends-frame}
+use Rattle.demands.proofs.Sessions.CarMessages.{quick-car}
 
 unfoldable pub Agree : Machine → Machine → Log → Type 0
 Agree s t none = Unit {0}
@@ -39,6 +47,11 @@ module _ (s t : Machine) where
   pub held-same : (es : Log) → Agree s t es → heldIn s es ≡ heldIn t es
   unfolding heldIn
   held-same es a = ap (λ (rs : List Report). length (heardIn es) - namedIn rs) (reports-same es a)
+
+  pub front-whole : (es before : Log) (b : Event) → Begins (before ▷ b) es → Agree s t es → Agree s t (before ▷ b)
+  unfolding Agree
+  front-whole es before b whole a = a
+  front-whole (es ▷ e) before b (more g) a = front-whole es before b g (a .0)
 
   pub front : (es before : Log) (b : Event) → Begins (before ▷ b) es → Agree s t es → Agree s t before
   unfolding Agree
@@ -105,54 +118,116 @@ module _ (s t : Machine) where
         goes-on (starting-move es (a .0) z) (subst (λ (rs : List Report). Not (Says connectedReport rs)) (a .1) c)
         (subst (λ (rs : List Report). Not (Says failedReport rs)) (a .1) f)
 
-  pub opens-move : (es : Log) (b : Event) (k : Talk) → Agree s t es → OpensIn s es b k → OpensIn t es b k
-  opens-move es b k a o =
-      let h = held-same es a in
-      record {
-        session = session-move es k a (o .session);
-        kind = o .kind;
-        number = o .number;
-        alone = subst (λ (n : ℕ). (n ≡ 0) ⊎ (20_000 < gapBefore (takenOf es) b .0)) h (o .alone);
-        lasts = subst (λ (n : ℕ). Not (IdleOver k n (gapBefore (takenOf es) b))) h (o .lasts);
-      }
+  -- ---- a byte after events that were answered alike: what is said of it, by the reports of the bytes before it
+  pub record Near (es : Log) (b : Event) (k : Talk) : Type 0 where
+    pub held : heldIn s es ≡ heldIn t es
+    pub reply : replyOnceEnded s es b k ≡ replyOnceEnded t es b k
+    pub quick : ofQuickCar (k .pair) ≡ true → heldIn s (es ▷ b) ≡ heldIn t (es ▷ b)
 
-  pub early-same : (es : Log) (b : Event) (k : Talk) → Agree s t es → EarlyAt s es b k ≡ EarlyAt t es b k
-  early-same es b k a =
-      ap (λ (n : ℕ). Early k (replyAt k n (gapBefore (takenOf es) b)) (gapBefore (takenOf es) b) b) (held-same es a)
+  -- where its event was answered alike too, ..
+  pub near-agree : (es : Log) (b : Event) (k : Talk) → Agree s t (es ▷ b) → Near es b k
+  unfolding Agree replyOnceEnded
+  near-agree es b k a = record {
+    held = held-same es (a .0);
+    reply = λ i. if eqb (held-same es (a .0) i) 0 then k .reply else
+        if ofCar (k .pair) && isAmong frameReport (a .1 i) then replyTo (lastSide (bytesOf (takenOf es))) else Never;
+    quick = λ _. held-same (es ▷ b) a;
+  }
 
-  pub stray-same : (es : Log) (b : Event) (k : Talk) → Agree s t es → StrayAt s es b k ≡ StrayAt t es b k
-  stray-same es b k a =
-      ap (λ (n : ℕ). Stray k (replyAt k n (gapBefore (takenOf es) b)) (gapBefore (takenOf es) b) b) (held-same es a)
+  -- .. or its frames, and else no byte of a quick car is asked for, as in 14230
+  pub reply-same : (es : Log) (b : Event) (k : Talk) → Agree s t es → isAmong frameReport (reportsTo s es b) ≡ isAmong frameReport (reportsTo t es b)
+      → replyOnceEnded s es b k ≡ replyOnceEnded t es b k
+  unfolding replyOnceEnded
+  reply-same es b k a f i =
+      if eqb (held-same es a i) 0 then k .reply else if ofCar (k .pair) && f i then replyTo (lastSide (bytesOf (takenOf es))) else Never
 
-  opens-message : (es : Log) (b : Event) (k : Talk) → Agree s t es → OpensMessage s k es b → OpensMessage t k es b
-  opens-message es b k a m = record {
-    opens = opens-move es b k a (m .opens);
-    timely = subst (λ (X : Type 0). Not X) (early-same es b k a) (m .timely);
-    expected = subst (λ (X : Type 0). Not X) (stray-same es b k a) (m .expected);
+  near-frame : (es : Log) (b : Event) (k : Talk) → Agree s t es → ofCar (k .pair) ≡ false → Near es b k
+  unfolding replyOnceEnded
+  near-frame es b k a n = record {
+    held = held-same es a;
+    reply = rw n (ap (λ (h : ℕ). if eqb h 0 then k .reply else Never) (held-same es a));
+    quick = λ q. absurd (false≢true (sym n ∙ quick-car (k .pair) q));
+  }
+
+  -- P3 max passes alike
+  abbrev IdleBy : Reply → Log → Event → Talk → Type 0
+  IdleBy reply es b k =
+      let gap = gapBefore (takenOf es) b in
+      (isPassed (inForce k .p3max) gap ≡ true) × (reply ≡ First → isPassed (inForce k .p2max) gap ≡ true)
+
+  pub idle-over : (es : Log) (b : Event) (k : Talk) → replyOnceEnded s es b k ≡ replyOnceEnded t es b k → IdleOver s es b k ≡ IdleOver t es b k
+  idle-over es b k q = ap (λ (r : Reply). IdleBy r es b k) q
+
+  pub opens-move : (es : Log) (b : Event) (k : Talk) → Agree s t es → Near es b k → OpensIn s es b k → OpensIn t es b k
+  opens-move es b k a near o = record {
+    session = session-move es k a (o .session);
+    kind = o .kind;
+    number = o .number;
+    alone = ⊎-elim (λ z. inl (sym (near .held) ∙ z)) (⊎-elim (λ z. inr (inl z)) (λ z. inr (inr (z .0, z .1, sym (near .quick (z .0)) ∙ z .2)))) (o .alone);
+    lasts = subst (λ (X : Type 0). Not X) (idle-over es b k (near .reply)) (o .lasts);
+  }
+
+  abbrev replyBy : Reply → Log → Event → Talk → Reply
+  replyBy reply es b k = if isFirst reply && isPassed (inForce k .p2max) (gapBefore (takenOf es) b) then Never else reply
+
+  pub early-same : (es : Log) (b : Event) (k : Talk) → Near es b k → EarlyAt s es b k ≡ EarlyAt t es b k
+  unfolding replyAt
+  early-same es b k near = ap (λ (r : Reply). Early k (replyBy r es b k) (gapBefore (takenOf es) b) b) (near .reply)
+
+  pub stray-same : (es : Log) (b : Event) (k : Talk) → Near es b k → StrayAt s es b k ≡ StrayAt t es b k
+  unfolding replyAt
+  stray-same es b k near = ap (λ (r : Reply). Stray k (replyBy r es b k) (gapBefore (takenOf es) b) b) (near .reply)
+
+  opens-message : (es : Log) (b : Event) (k : Talk) → Agree s t es → Near es b k → OpensMessage s k es b → OpensMessage t k es b
+  opens-message es b k a near m = record {
+    opens = opens-move es b k a near (m .opens);
+    timely = subst (λ (X : Type 0). Not X) (early-same es b k near) (m .timely);
+    expected = subst (λ (X : Type 0). Not X) (stray-same es b k near) (m .expected);
   }
 
   pub speaks-move : (es : Log) (k : Talk) (b : Event) (bytes : List ℕ) → Agree s t es → Speaks s k b es bytes → Speaks t k b es bytes
   unfolding Agree
-  speaks-move (es ▷ e) k b bytes a (begins m) = begins (opens-message es e k (a .0) m)
+  speaks-move (es ▷ e) k b bytes a (begins m) = begins (opens-message es e k (a .0) (near-agree es e k a) m)
   speaks-move (es ▷ e) k b bytes a (refused z n) = refused (speaks-move es k b bytes (a .0) z) n
   speaks-move (es ▷ e) k b bytes a (waits z n t i) = waits (speaks-move es k b bytes (a .0) z) n t i
   speaks-move (es ▷ e) k b bytes a (grows {bytes = bs} z r n y d i) = grows (speaks-move es k b bs (a .0) z) r n y d i
 
-  -- after events that were answered alike, whatever is said of the next
-  pub speaks-next : (es : Log) (e : Event) (k : Talk) (b : Event) (bytes : List ℕ) → Agree s t es → Speaks s k b (es ▷ e) bytes → Speaks t k b (es ▷ e) bytes
-  speaks-next es e k b bytes a (begins m) = begins (opens-message es e k a m)
-  speaks-next es e k b bytes a (refused z n) = refused (speaks-move es k b bytes a z) n
-  speaks-next es e k b bytes a (waits z n t i) = waits (speaks-move es k b bytes a z) n t i
-  speaks-next es e k b bytes a (grows {bytes = bs} z r n y d i) = grows (speaks-move es k b bs a z) r n y d i
+  -- after events that were answered alike, whatever is said of the next, on a 14230 link
+  pub speaks-next : (es : Log) (e : Event) (k : Talk) (b : Event) (bytes : List ℕ) → Agree s t es → ofCar (k .pair) ≡ false → Speaks s k b (es ▷ e) bytes
+      → Speaks t k b (es ▷ e) bytes
+  speaks-next es e k b bytes a c (begins m) = begins (opens-message es e k a (near-frame es e k a c) m)
+  speaks-next es e k b bytes a c (refused z n) = refused (speaks-move es k b bytes a z) n
+  speaks-next es e k b bytes a c (waits z n t i) = waits (speaks-move es k b bytes a z) n t i
+  speaks-next es e k b bytes a c (grows {bytes = bs} z r n y d i) = grows (speaks-move es k b bs a z) r n y d i
 
   pub ends-move : (es : Log) (e : Event) (bytes : List ℕ) → Agree s t es → EndsInFrame s es e bytes → EndsInFrame t es e bytes
   ends-move es e bytes a x = record {
     talk = x .talk;
     first = x .first;
-    message = speaks-next es e (x .talk) (x .first) bytes a (x .message);
-    kind = x .kind;
     number = x .number;
-    read = x .read;
+    frame = x .frame;
+    ends = ⊎-elim
+        (λ y. inl (speaks-next es e (x .talk) (x .first) bytes a (ends-frame (x .talk .pair) (x .first .side) bytes (y .2) .1) (y .0), y .1, y .2))
+        (λ y. inr (speaks-move es (x .talk) (x .first) bytes a (y .0), y .1)) (x .ends);
+  }
+
+  pub right-move : (es : Log) (e : Event) → Agree s t es → EndsRight s es e → EndsRight t es e
+  right-move es e a x = record {
+    talk = x .talk;
+    first = x .first;
+    bytes = x .bytes;
+    message = speaks-move es (x .talk) (x .first) (x .bytes) a (x .message);
+    over = x .over;
+    frame = x .frame;
+  }
+
+  pub interrupts-move : (es : Log) (e : Event) → Agree s t es → Interrupts s es e → Interrupts t es e
+  interrupts-move es e a x = record {
+    talk = x .talk;
+    first = x .first;
+    bytes = x .bytes;
+    message = speaks-move es (x .talk) (x .first) (x .bytes) a (x .message);
+    cuts = x .cuts;
   }
 
   pub stop-move : (es : Log) (e : Event) (k : Talk) → Agree s t es → AnswersStop s k es e → AnswersStop t k es e

@@ -11,11 +11,12 @@ use Rattle.demands.specs.Logs.{takenOf}
 use Rattle.demands.specs.Refusals.{Not}
 use Rattle.demands.specs.Histories.{Among, Tells}
 use Rattle.demands.specs.Accounts.{heldIn}
-use Rattle.demands.specs.Sessions.{Talk, Session, NoReply, IdleOver, gapBefore}
+use Rattle.demands.specs.Sessions.{Talk, Session, NoReply, IdleOver, gapBefore, replyOnceEnded}
 use Rattle.demands.specs.Endings.{Downs}
 use Rattle.demands.proofs.Moves.ReportsInList.{says-speaks, tells-says, among-says}
-use Rattle.demands.proofs.Deciding.Agree.{held-same, session-move, stop-move}
+use Rattle.demands.proofs.Deciding.Agree.{held-same, session-move, stop-move, idle-over, reply-same}
 use Rattle.demands.proofs.Deciding.SameList.{Has}
+use Rattle.demands.proofs.Deciding.Messages.{frames-same}
 use Rattle.demands.proofs.Deciding.Sharing.{Both, turned, before, here, there, formed-here, formed-there, like, like-plain}
 use Rattle.demands.proofs.Deciding.Starts.{starts-too, fails-too}
 
@@ -23,15 +24,16 @@ module _ (B : Both) where
   session-too : (k : Talk) → Session (B .s) (B .es) k → Session (B .t) (B .es) k
   session-too k x = session-move (B .s) (B .t) (B .es) k (B .agree) x
 
-  held : heldIn (B .s) (B .es) ≡ heldIn (B .t) (B .es)
-  held = held-same (B .s) (B .t) (B .es) (B .agree)
+  -- the reply that may come once what was held has ended
+  replies : (k : Talk) → replyOnceEnded (B .s) (B .es) (B .e) k ≡ replyOnceEnded (B .t) (B .es) (B .e) k
+  replies k = reply-same (B .s) (B .t) (B .es) (B .e) k (B .agree) (frames-same B)
 
   -- ---- 6
   pub six : (r : Report) → Among r (here B) → r .number ≡ noReplyReport → Has r (there B)
   six r i n =
       let y = B .D .two .only-in-session (B .es) (B .e) (before B) (inl (among-says noReplyReport i n)) in
       let z = B .D .two .no-reply-exactly (B .es) (B .e) (y .talk) (before B) (y .session) .0 (among-says noReplyReport i n) in
-      let w = subst (λ (h : ℕ). NoReply (y .talk) h (gapBefore (takenOf (B .es)) (B .e))) held (z .1) in
+      let w : NoReply (B .t) (B .es) (B .e) (y .talk) = (sym (replies (y .talk)) ∙ z .1 .0, z .1 .1) in
       let says = B .E .two .no-reply-exactly (B .es) (B .e) (y .talk) (before B) (session-too (y .talk) (y .session)) .1 (z .0, w) in
       let x = says-speaks noReplyReport (there B) says in
       like-plain B r (x .report) i (x .made) (x .number-is ∙ sym n) (inr (inr (inr (inl n)))) (inr (inr (inr (inl (x .number-is)))))
@@ -48,17 +50,17 @@ module _ (B : Both) where
     downs-there : Downs (B .t) (B .es) (B .e) k
     downs-there = B .E .two .downs-exactly (B .es) (B .e) k (before B) (session-too k session)
 
-    abbrev Idle : ℕ → Type 0
-    Idle h = IdleOver k h (gapBefore (takenOf (B .es)) (B .e))
+    idles : IdleOver (B .s) (B .es) (B .e) k ≡ IdleOver (B .t) (B .es) (B .e) k
+    idles = idle-over (B .s) (B .t) (B .es) (B .e) k (replies k)
 
     idle : Moves idleOver
-    idle x = let y = downs-here .idle .0 x in downs-there .idle .1 (y .0, subst Idle held (y .1))
+    idle x = let y = downs-here .idle .0 x in downs-there .idle .1 (y .0, subst (λ (X : Type 0). X) idles (y .1))
 
     drops : Moves dropped
-    drops x = let y = downs-here .dropped .0 x in downs-there .dropped .1 (y .0, y .1, subst (λ (h : ℕ). Not (Idle h)) held (y .2))
+    drops x = let y = downs-here .dropped .0 x in downs-there .dropped .1 (y .0, y .1, subst (λ (X : Type 0). Not X) idles (y .2))
 
     restarts : Moves restarted
-    restarts x = let y = downs-here .restarted .0 x in downs-there .restarted .1 (y .0, y .1, subst (λ (h : ℕ). Not (Idle h)) held (y .2))
+    restarts x = let y = downs-here .restarted .0 x in downs-there .restarted .1 (y .0, y .1, subst (λ (X : Type 0). Not X) idles (y .2))
 
     halts : Moves stopped
     halts x =

@@ -250,7 +250,7 @@ module _ (m : Machine) (D : Meets m) where
       at-start : numberAfter (takenOf es1) e ≡ taken → Starter e → ⊥
       at-start n k =
           let y = D .two .downs-exactly es1 e t1 (b .0) x in
-          let no : Not (IdleOver t1 (heldIn m es1) (gapBefore (takenOf es1) e)) = λ i. d (tells-says downReport idleOver (reportsTo m es1 e) (y .idle .1 (n, i))) in
+          let no : Not (IdleOver m es1 e t1) = λ i. d (tells-says downReport idleOver (reportsTo m es1 e) (y .idle .1 (n, i))) in
           d (tells-says downReport restarted (reportsTo m es1 e) (y .restarted .1 (n, k, no)))
 
       by-number : (c : Bool) → eqb (numberAfter (takenOf es1) e) taken ≡ c

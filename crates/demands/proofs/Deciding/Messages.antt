@@ -2,7 +2,7 @@
 -- that ends in a frame, which events and earlier reports fix; a report 2 names what is held, and its reason goes by its first byte, which is found at its
 -- index in the history, and by the bytes that it names. Assumes nothing.
 use Prim.Native.Nat.{ℕ, _+_, _≤_, _<_}
-use mathlib.Core.Bool.{Bool, true, false}
+use mathlib.Core.Bool.{Bool, true, false, false≢true}
 use mathlib.Core.List.{List, [], _∷_}
 use mathlib.Core.Logic.{_⊎_, inl, inr, ⊎-elim}
 use mathlib.Core.Path.{_≡_, refl, sym, ap, _∙_, subst}
@@ -16,11 +16,11 @@ use Rattle.base.specs.Reports.{frameReport, damageReport, early, stray, noReaso
 use Rattle.units.specs.declared.Micros.{Micros}
 use Rattle.events.specs.Events.{isByte}
 use Rattle.events.specs.declared.Event.{Event}
-use Rattle.events.specs.declared.Kind.the-variants.{Byte}
+use Rattle.events.specs.declared.Kind.the-variants.{Address, WakeUp, Byte, Tick, Drop, Other}
 use Rattle.reports.specs.declared.Report.{Report}
 use Rattle.demands.specs.Logs.{Log, none, _▷_, heardOf, bytesOf, heardIn, numberAfter, takenOf, InBytes, Begins, whole, more}
 use Rattle.demands.specs.Refusals.{Not}
-use Rattle.demands.specs.Histories.{Machine, reportsTo, reportsOf, Among, first, later}
+use Rattle.demands.specs.Histories.{Machine, reportsTo, reportsOf, Among, first, later, Says, isAmong}
 use Rattle.demands.specs.Accounts.{namedBy, bytesNamed, heldIn, InTurn, namedIn}
 use Rattle.demands.specs.Sessions.{Talk, Session, EarlyAt, StrayAt, FirstByte, gapBefore, Early, Stray, replyAt}
 use Rattle.demands.specs.Messages.{ReportsFrame}
@@ -29,10 +29,11 @@ use Rattle.demands.specs.Damage.{reasonIn, GoesBy, Damaged}
 use Rattle.demands.specs.Deciding.{Meets}
 use Rattle.demands.proofs.Moves.ReportsInList.{says-speaks, among-says, not-among, among-right}
 use Rattle.demands.proofs.Histories.BytesHeard.{begins-longer}
-use Rattle.demands.proofs.Deciding.Agree.{Agree, held-same, front, session-move, ends-move}
+use Rattle.demands.proofs.Deciding.Agree.{Agree, held-same, front-whole, session-move, Near, near-agree, early-same, stray-same, ends-move, right-move, interrupts-move}
 use Rattle.demands.proofs.Deciding.SameList.{Has}
 use Rattle.demands.proofs.Deciding.Fixed.{session-fixed}
-use Rattle.demands.proofs.Deciding.Sharing.{Both, agree-sym, before, here, there, like, like-plain}
+use Rattle.demands.proofs.Deciding.Sharing.{Both, agree-sym, before, here, there, like, like-plain, turned}
+use Rattle.events.specs.declared.Kind.{Kind}
 
 -- ---- REPORT 1
 -- what is named in turn lies within what is named, and so within what is heard
@@ -100,28 +101,45 @@ unfolding InBytes
 bytes-front es before b whole x = x .0
 bytes-front (es ▷ e) before b (more g) x = bytes-front es before b g (x .0)
 
-front-next : (s t : Machine) (es before : Log) (e b : Event) → Begins (before ▷ b) (es ▷ e) → Agree s t es → Agree s t before
-front-next s t es before e b whole a = a
-front-next s t es before e b (more g) a = front s t es before b g a
+byte-kind : (k : Kind) → isByte k ≡ true → k ≡ Byte
+unfolding isByte
+byte-kind Address h = absurd (false≢true h)
+byte-kind WakeUp h = absurd (false≢true h)
+byte-kind Byte h = refl
+byte-kind Tick h = absurd (false≢true h)
+byte-kind Drop h = absurd (false≢true h)
+byte-kind Other h = absurd (false≢true h)
 
--- a reason that goes by the same bytes and gap is the same
-goes-same : (k l i j : ℕ) (gap : Micros) (r q : Report) → k ≡ l → i ≡ j → GoesBy k i gap r → GoesBy l j gap q → r .reason ≡ q .reason
-goes-same k l i j gap r q e d x y = by-zero (eqb k noReason) refl
+not-byte : (k : Kind) → isByte k ≡ false → k ≡ Byte → ⊥
+unfolding isByte
+not-byte k h e = false≢true (sym h ∙ ap isByte e)
+
+-- a reason that goes by the same bytes, event and gap is the same
+goes-same : (k l i j : ℕ) (b : Event) (gap : Micros) (r q : Report) → k ≡ l → i ≡ j → GoesBy k i b gap r → GoesBy l j b gap q → r .reason ≡ q .reason
+goes-same k l i j b gap r q e d x y = by-zero (eqb k noReason) refl
   where
-    by-gap : (b : Bool) → ltb 20_000 (gap .0) ≡ b → k ≡ noReason → r .reason ≡ q .reason
-    by-gap true g z = x .ended z (ltb-true 20_000 (gap .0) g) ∙ d ∙ sym (y .ended (sym e ∙ z) (ltb-true 20_000 (gap .0) g))
-    by-gap false g z =
-        let n : Not (20_000 < gap .0) = λ h. let o = ltb-false 20_000 (gap .0) g in omega arith in
-        x .closed z n ∙ sym (y .closed (sym e ∙ z) n)
+    by-byte : Not (20_000 < gap .0) → (c : Bool) → isByte (b .kind) ≡ c → k ≡ noReason → r .reason ≡ q .reason
+    by-byte n true c z =
+        let h = byte-kind (b .kind) c in
+        x .ended z (inr h) ∙ d ∙ sym (y .ended (sym e ∙ z) (inr h))
+    by-byte n false c z =
+        let h = not-byte (b .kind) c in
+        x .closed z n h ∙ sym (y .closed (sym e ∙ z) n h)
 
-    by-zero : (b : Bool) → eqb k noReason ≡ b → r .reason ≡ q .reason
+    by-gap : (c : Bool) → ltb 20_000 (gap .0) ≡ c → k ≡ noReason → r .reason ≡ q .reason
+    by-gap true g z =
+        let h = ltb-true 20_000 (gap .0) g in
+        x .ended z (inl h) ∙ d ∙ sym (y .ended (sym e ∙ z) (inl h))
+    by-gap false g z = by-byte (λ h. let o = ltb-false 20_000 (gap .0) g in omega arith) (isByte (b .kind)) refl z
+
+    by-zero : (c : Bool) → eqb k noReason ≡ c → r .reason ≡ q .reason
     by-zero true z = by-gap (ltb 20_000 (gap .0)) refl (eqb-true k noReason z)
     by-zero false z =
         let n = eqb-false k noReason z in
         x .wrong n ∙ e ∙ sym (y .wrong (λ h. n (e ∙ h)))
 
 -- two reports 2 that name the same bytes have the same reason
-module _ (B : Both) (r q : Report) (nr : r .number ≡ damageReport) (hb : r .bytes ≡ q .bytes) (hf : r .first ≡ q .first)
+module _ (B : Both) (r q : Report) (nr : r .number ≡ damageReport) (hb : r .bytes ≡ q .bytes) (hf : r .first ≡ q .first) (old : r .first < length (heardIn (B .es)))
     (x : Damaged (B .s) (B .es) (B .e) r) (y : Damaged (B .t) (B .es) (B .e) q) where
   abbrev X : FirstByte (B .s) (B .es ▷ B .e) r
   X = x .turns .first
@@ -137,8 +155,17 @@ module _ (B : Both) (r q : Report) (nr : r .number ≡ damageReport) (hb : r .by
   unfolding lastEvent
   byte-is = ap (lastEvent (X .byte)) (same-place X Y hf)
 
+  -- its first byte came before the event
+  agreed-whole : Agree (B .s) (B .t) (X .before ▷ X .byte)
+  agreed-whole = by-begins (X .before) (X .byte) (X .begins) (X .index)
+    where
+      by-begins : (before : Log) (b : Event) → Begins (before ▷ b) (B .es ▷ B .e) → length (heardIn before) ≡ r .first → Agree (B .s) (B .t) (before ▷ b)
+      by-begins before b whole i = absurd (omega (arith, i, old))
+      by-begins before b (more g) i = front-whole (B .s) (B .t) (B .es) before b g (B .agree)
+
   agreed : Agree (B .s) (B .t) (X .before)
-  agreed = front-next (B .s) (B .t) (B .es) (X .before) (B .e) (X .byte) (X .begins) (B .agree)
+  unfolding Agree
+  agreed = agreed-whole .0
 
   -- the session before it is the same
   talk-is : X .talk ≡ Y .talk
@@ -147,20 +174,15 @@ module _ (B : Both) (r q : Report) (nr : r .number ≡ damageReport) (hb : r .by
       session-fixed (B .s) (B .D) (X .before) (X .talk) (Y .talk) (bytes-front (B .es ▷ B .e) (X .before) (X .byte) (X .begins) (B .inBytes)) (X .opens .session)
       (session-move (B .t) (B .s) (X .before) (Y .talk) (agree-sym (B .s) (B .t) (X .before) agreed) theirs)
 
-  held-is : heldIn (B .s) (X .before) ≡ heldIn (B .t) (Y .before)
-  held-is = held-same (B .s) (B .t) (X .before) agreed ∙ ap (heldIn (B .t)) front-is
-
-  -- and so is whatever is said of the byte by its session, the bytes held before it and its gap
-  said-same : (P : Talk → ℕ → Micros → Event → Type 0)
-      → P (X .talk) (heldIn (B .s) (X .before)) (gapBefore (takenOf (X .before)) (X .byte)) (X .byte)
-      ≡ P (Y .talk) (heldIn (B .t) (Y .before)) (gapBefore (takenOf (Y .before)) (Y .byte)) (Y .byte)
-  said-same P i = P (talk-is i) (held-is i) (gapBefore (takenOf (front-is i)) (byte-is i)) (byte-is i)
+  -- and so is whatever is said of the byte
+  near : Near (B .s) (B .t) (X .before) (X .byte) (X .talk)
+  near = near-agree (B .s) (B .t) (X .before) (X .byte) (X .talk) agreed-whole
 
   early-is : EarlyAt (B .s) (X .before) (X .byte) (X .talk) ≡ EarlyAt (B .t) (Y .before) (Y .byte) (Y .talk)
-  early-is = said-same (λ k n gap b. Early k (replyAt k n gap) gap b)
+  early-is = early-same (B .s) (B .t) (X .before) (X .byte) (X .talk) near ∙ (λ i. EarlyAt (B .t) (front-is i) (byte-is i) (talk-is i))
 
   stray-is : StrayAt (B .s) (X .before) (X .byte) (X .talk) ≡ StrayAt (B .t) (Y .before) (Y .byte) (Y .talk)
-  stray-is = said-same (λ k n gap b. Stray k (replyAt k n gap) gap b)
+  stray-is = stray-same (B .s) (B .t) (X .before) (X .byte) (X .talk) near ∙ (λ i. StrayAt (B .t) (front-is i) (byte-is i) (talk-is i))
 
   bytes-say : reasonIn (X .talk .pair) (bytesNamed (bytesOf (takenOf (B .es))) r) ≡ reasonIn (Y .talk .pair) (bytesNamed (bytesOf (takenOf (B .es))) q)
   unfolding bytesNamed
@@ -177,7 +199,7 @@ module _ (B : Both) (r q : Report) (nr : r .number ≡ damageReport) (hb : r .by
   by-stray o false k =
       let p : Not (EarlyAt (B .s) (X .before) (X .byte) (X .talk)) = λ z. o (x .turns .early .1 z .1) in
       let n : Not (StrayAt (B .s) (X .before) (X .byte) (X .talk)) = λ z. eqb-false (r .reason) stray k (x .turns .stray .1 z .1) in
-      goes-same _ _ _ _ (gapBefore (takenOf (B .es)) (B .e)) r q bytes-say end-says (x .otherwise p n)
+      goes-same _ _ _ _ (B .e) (gapBefore (takenOf (B .es)) (B .e)) r q bytes-say end-says (x .otherwise p n)
       (y .otherwise (subst (λ (P : Type 0). Not P) early-is p) (subst (λ (P : Type 0). Not P) stray-is n))
 
   by-early : (k : Bool) → eqb (r .reason) early ≡ k → r .reason ≡ q .reason
@@ -195,12 +217,33 @@ two B r i n =
     let same = held-same (B .s) (B .t) es (B .agree) in
     let session = session-move (B .s) (B .t) es (m .talk) (B .agree) (m .session) in
     let q =
-    says-speaks damageReport (there B) (B .E .two .damage-exactly es e (m .talk) (before B) session .1 (z .0, subst (λ (h : ℕ). 0 < h) same (z .1), z .2)) in
+    says-speaks damageReport (there B) (B .E .two .damage-exactly es e (m .talk) (before B) session .1 (
+      z .0,
+      subst (λ (h : ℕ). 0 < h) same (z .1),
+      (λ x. z .2 (right-move (B .t) (B .s) es e (agree-sym (B .s) (B .t) es (B .agree)) x)),
+      ⊎-elim (λ x. inl x) (⊎-elim (λ x. inr (inl x)) (⊎-elim (λ x. inr (inr (inl x))) (λ x. inr (inr (inr (interrupts-move (B .s) (B .t) es e (B .agree) x)))))) (z .3),
+    )) in
     let nr = B .D .two .damage-names es e r i n in
     let nq = B .E .two .damage-names es e (q .report) (q .made) (q .number-is) in
     let hb : r .bytes ≡ q .report .bytes = nr .0 ∙ same ∙ sym (nq .0) in
     let hf : r .first ≡ q .report .first = omega (arith, nr .1, nq .1, hb) in
     let reason =
-    by-early B r (q .report) n hb hf (B .D .two .damage-reasons es e r (B .inBytes) i n)
+    by-early B r (q .report) n hb hf (omega (arith, nr .0, nr .1, z .1)) (B .D .two .damage-reasons es e r (B .inBytes) i n)
     (B .E .two .damage-reasons es e (q .report) (B .inBytes) (q .made) (q .number-is)) (eqb (r .reason) early) refl in
     like B r i (record { report = q .report; made = q .made; number-is = q .number-is ∙ sym n; reason-is = sym reason }) hb
+
+-- ---- frames are among the reports of one exactly if they are among those of the other
+frames-too : (B : Both) → Says frameReport (here B) → Says frameReport (there B)
+frames-too B x =
+    let y = says-speaks frameReport (here B) x in
+    let z = one B (y .report) (y .made) (y .number-is) in
+    among-says frameReport (z .made) (sym (z .like .number) ∙ y .number-is)
+
+pub frames-same : (B : Both) → isAmong frameReport (here B) ≡ isAmong frameReport (there B)
+frames-same B = by-both (isAmong frameReport (here B)) (isAmong frameReport (there B)) refl refl
+  where
+    by-both : (a c : Bool) → isAmong frameReport (here B) ≡ a → isAmong frameReport (there B) ≡ c → a ≡ c
+    by-both true true x y = refl
+    by-both true false x y = absurd (false≢true (sym y ∙ frames-too B x))
+    by-both false true x y = absurd (false≢true (sym x ∙ frames-too (turned B) y))
+    by-both false false x y = refl

@@ -3,7 +3,7 @@
 -- every rule keeps (`rule-fits`).
 -- Assumes nothing.
 use Prim.Native.Nat.{ℕ, _/_, _≤_, _<_}
-use mathlib.Core.Bool.{Bool, true, false, not, _||_, false≢true}
+use mathlib.Core.Bool.{Bool, true, false, not, _||_, false≢true, _&&_}
 use mathlib.Core.List.{List, _++_}
 use mathlib.Core.Path.{_≡_, refl, sym, ap, _∙_, subst}
 use mathlib.Core.Logic.{⊎-elim}
@@ -12,7 +12,7 @@ use borrow.Author.Tests.{eqb-false}
 use lib.Dec.{eqb, leb}
 use Rattle.base.specs.Choice.{if_then_else_}
 use Rattle.base.specs.Sums.{greatest}
-use Rattle.base.specs.Reports.{damageReport, failedReport, downReport, noReason, brokenOff, closed}
+use Rattle.base.specs.Reports.{damageReport, failedReport, downReport, noReason, brokenOff, closed, wrongForm}
 use Rattle.base.proofs.Tests.{by-test}
 use Rattle.units.specs.Units.{isEarlier}
 use Rattle.units.specs.declared.Micros.{Micros}
@@ -22,21 +22,22 @@ use Rattle.frame.specs.Layout.{formatForm}
 use Rattle.events.specs.Events.{isTester, sameSide}
 use Rattle.events.specs.declared.Side.{Side}
 use Rattle.events.specs.declared.Event.{Event}
-use Rattle.talk.specs.Talk.{isFirst, testerTurn, isStray, isHasty, unitTurn, turnReason, placeAnnounced, headReason, firstReason}
-use Rattle.talk.specs.Talk.{partReason, laterReason}
+use Rattle.talk.specs.Talk.{begun as opening}
+use Rattle.talk.specs.Talk.{isFirst, testerTurn, isStray, isHasty, unitTurn, turnReason, placeAnnounced, headReason, firstReason, frameReason, begunBy, grown}
+use Rattle.talk.specs.Talk.{partReason, laterReason, withData, endReason, isFree, grownAt}
 use Rattle.talk.specs.declared.Reply.{Reply}
 use Rattle.talk.specs.declared.Part.{Part}
-use Rattle.talk.specs.declared.Part.the-variants.{Target, Source, Length, Data, Sum}
+use Rattle.talk.specs.declared.Part.the-variants.{Target, Source, Length, Data, Sum, Free}
 use Rattle.talk.specs.declared.Message.{Message}
 use Rattle.phases.specs.Phases.{isHeld, isOpen, down, starting, connected, talking, holding, damaged, settled, framed}
 use Rattle.phases.specs.declared.State.{State}
 use Rattle.phases.specs.declared.State.the-variants.{Down, Starting, Quiet, Held, Damage}
 use Rattle.phases.specs.declared.Phase.{Phase}
-use Rattle.moves.specs.Moves.{lossReason, reasonAtFirst}
+use Rattle.moves.specs.Moves.{lossReason, reasonAtFirst, isRight}
 use Rattle.moves.specs.declared.Move.{Move}
 use Rattle.moves.proofs.Rules.{Moment, Closes, by-drop, by-address, by-wake-up, Rule, drops}
-use Rattle.moves.proofs.Rules.{rests, breaks-off, waited, idled, expires, cuts-off, aborts, leaves, starts-slow, starts-fast, hurries, low}
-use Rattle.moves.proofs.Rules.{strays, misses, connects, goes-on, opens, errs, breaks, frames, grows, stops}
+use Rattle.moves.proofs.Rules.{rests, ends-right, breaks-off, waited, idled, expires, cuts-off, aborts, leaves, starts-slow, starts-fast, hurries, low}
+use Rattle.moves.proofs.Rules.{cut-right, cut-wrong, cut-held, strays, misses, connects, goes-on, opens, errs, breaks, frames, grows, stops}
 use Rattle.reports.specs.Reporting.{namesBytes, reportOf, told, moved}
 use Rattle.reports.specs.declared.Report.{Report}
 use Rattle.reports.specs.declared.Run.{Run}
@@ -49,12 +50,15 @@ use Rattle.demands.specs.Logs.{Log, none, _▷_}
 use Rattle.demands.specs.Histories.{after, reportsTo, Among}
 use Rattle.demands.specs.Each.{Formed}
 use Rattle.demands.proofs.Histories.Holding.{Holds, Names, frame, damage, success, failure, outside, no-reply, left, not-idle, framed-quiet}
-use Rattle.demands.proofs.Histories.Tiling.{HoldsIn, rule-names, held-walk}
+use Rattle.demands.proofs.Histories.Tiling.{HoldsIn, rule-names, held-walk, Fair}
 use Rattle.demands.proofs.Histories.Invariant.{kept-of}
 use Rattle.demands.proofs.Connecting.Judging.{misjudged}
 use Rattle.demands.proofs.Moves.ReportsInList.{Each, each-none, each-both, tells-each}
 use Rattle.demands.proofs.Histories.ReportsMade.{reports-made, taken-by-report}
 use Rattle.demands.specs.Ours.{ours}
+use Rattle.keys.specs.Editions.{isCar, editionOf}
+use Rattle.talk.specs.Cars.{carReason, carBegun, carGrown, isHeadByte, carEmpty, isCarSize, countedUp}
+use Rattle.keys.specs.declared.Pair.{Pair}
 
 -- ---- the reasons that a report has, by its number
 abbrev least : ℕ → ℕ
@@ -130,14 +134,17 @@ head-most kb1 f =
     (pick (not (takesForm kb1 (formatForm f))) (omega arith) (pick (placeAnnounced kb1 f) (omega arith) (omega arith)))
 
 first-most : (p : Phase) (side : Side) (v : ℕ) (gap : Micros) → reasonAtFirst p side v gap ≤ 9
-unfolding reasonAtFirst firstReason
-first-most p side v gap = pick (eqb (turnReason (p .reply) (p .windows) side gap) noReason) (head-most _ v) (turn-most (p .reply) (p .windows) side gap)
+unfolding reasonAtFirst firstReason frameReason
+first-most p side v gap =
+    let turn = turn-most (p .reply) (p .windows) side gap in
+    pick (isCar (editionOf (p .start .pair))) turn (pick (eqb (turnReason (p .reply) (p .windows) side gap) noReason) (head-most _ v) turn)
 
 part-most : (part : Part) (m : Message) (v : ℕ) → partReason part m v ≤ 9
 part-most Target m v = omega arith
 part-most Source m v = omega arith
 part-most Length m v = pick (eqb v 0) (omega arith) (omega arith)
 part-most Data m v = omega arith
+part-most Free m v = omega arith
 part-most Sum m v = pick (eqb v (m .sum)) (omega arith) (omega arith)
 
 later-most : (m : Message) (side : Side) (v : ℕ) → laterReason m side v ≤ 9
@@ -149,12 +156,12 @@ closes-for (by-drop k) = (omega arith, omega arith)
 closes-for (by-address k) = (omega arith, omega arith)
 closes-for (by-wake-up k) = (omega arith, omega arith)
 
--- ---- damage that is being skipped has a reason
+-- ---- damage that is being skipped has a reason; and of a message held, the reason that it would get is one too, if it has any
 abbrev WordedIn : State → ℕ → Type 0
 WordedIn Down why = Unit {0}
 WordedIn Starting why = Unit {0}
 WordedIn Quiet why = Unit {0}
-WordedIn Held why = Unit {0}
+WordedIn Held why = why ≤ 9
 WordedIn Damage why = Lost why
 
 abbrev Worded : Phase → Type 0
@@ -168,12 +175,54 @@ loss-in Quiet reason why o w k = absurd (false≢true o)
 loss-in Held reason why o w k = k
 loss-in Damage reason why o w k = w
 
+-- what a message held would be damage for
+car-most : (m : Message) (v : ℕ) → carReason m v ≤ 9
+unfolding carReason
+car-most m v =
+    pick (eqb (m .why) wrongForm || not (isHeadByte (m .side) (m .at) v)) (omega arith)
+    (pick (not (isCarSize (countedUp (m .at)))) (omega arith) (pick (eqb v (m .sum)) (omega arith) (omega arith)))
+
+begun-why : (pair : Pair) (side : Side) (v : ℕ) → begunBy pair side v .why ≤ 9
+unfolding begunBy opening carBegun carGrown
+begun-why pair side v =
+    by-test (λ (m : Message). m .why ≤ 9) (isCar (editionOf pair)) {x = carBegun side v} {y = opening side v} (λ _. car-most (carEmpty side) v) (λ _. omega arith)
+
+grown-why : (part : Part) (m : Message) (v : ℕ) → m .why ≤ 9 → grownAt part m v .why ≤ 9
+unfolding withData carGrown
+grown-why Target m v w = w
+grown-why Source m v w = w
+grown-why Length m v w = w
+grown-why Data m v w = w
+grown-why Sum m v w = w
+grown-why Free m v w = car-most m v
+
+end-most : (p : Phase) → p .message .why ≤ 9 → endReason (p .message) ≤ 9
+unfolding endReason
+end-most p w = pick (isFree (p .message .part)) w (omega arith)
+
+framed-worded : (p : Phase) → Worded (framed p)
+framed-worded p = subst (λ (x : State). WordedIn x (framed p .message .why)) (sym (framed-quiet p)) tt
+
+-- what is open and not right has a reason as it ends
+ended-loss : (p : Phase) → isOpen (p .state) ≡ true → isRight p ≡ false → Worded p → Lost (lossReason p (endReason (p .message)))
+unfolding isRight lossReason isHeld isOpen
+ended-loss p o r w = by-state (p .state) o r w
+  where
+    by-state : (st : State) → isOpen st ≡ true → (isHeld st && eqb (endReason (p .message)) noReason) ≡ false → WordedIn st (p .message .why)
+        → Lost (if isHeld st then endReason (p .message) else p .message .why)
+    by-state Down o r w = absurd (false≢true o)
+    by-state Starting o r w = absurd (false≢true o)
+    by-state Quiet o r w = absurd (false≢true o)
+    by-state Held o r w = lost (endReason (p .message)) r (end-most p w)
+    by-state Damage o r w = w
+
 -- ---- EACH RULE: the reason of its report, and the damage that it leaves
 rule-fits : (mark : Micros) (e : Event) (p : Phase) (k : Moment) (m : Move) → Rule mark e p k m → Worded p
     → Reasoned (m .number) (m .reason) × Worded (m .phase)
-unfolding lossReason down starting connected settled holding damaged talking
+unfolding lossReason down starting connected settled holding damaged talking grown
 rule-fits mark e p k m (rests u) w = ((omega arith, omega arith), w)
-rule-fits mark e p k m (breaks-off o s) w = (loss-in (p .state) brokenOff _ o w (omega arith, omega arith), tt)
+rule-fits mark e p k m (ends-right h s r) w = ((omega arith, omega arith), framed-worded p)
+rule-fits mark e p k m (breaks-off o s r) w = (ended-loss p o r w, tt)
 rule-fits mark e p k m (waited q f t) w = ((omega arith, omega arith), tt)
 rule-fits mark e p k m (idled q f t) w = ((omega arith, omega arith), tt)
 rule-fits mark e p k m (expires s o) w = ((omega arith, omega arith), tt)
@@ -185,16 +234,20 @@ rule-fits mark e p k m (starts-slow a i) w = ((omega arith, omega arith), tt)
 rule-fits mark e p k m (starts-fast a i l) w = ((omega arith, omega arith), tt)
 rule-fits mark e p k m (hurries s i) w = ((omega arith, omega arith), tt)
 rule-fits mark e p k m (low a i l) w = ((omega arith, omega arith), tt)
+rule-fits mark e p k m (cut-right c r) w = ((omega arith, omega arith), framed-worded p)
+rule-fits mark e p k m (cut-wrong c r) w =
+    let h = cut-held mark e p c in
+    (lost _ r (end-most p (subst (λ (st : State). WordedIn st (p .message .why)) h w)), tt)
 rule-fits mark e p k m (strays d) w = ((omega arith, omega arith), tt)
 rule-fits mark e p k m (misses s v) w =
     (misjudged (λ (j : ℕ). (1 ≤ j) × (j ≤ 6)) (omega arith, omega arith) (omega arith, omega arith) (omega arith, omega arith) _ _ _ _ v, tt)
 rule-fits mark e p k m (connects s v l) w = ((omega arith, omega arith), tt)
 rule-fits mark e p k m (goes-on s v l) w = ((omega arith, omega arith), tt)
-rule-fits mark e p k m (opens q r) w = ((omega arith, omega arith), tt)
+rule-fits mark e p k m (opens q r) w = ((omega arith, omega arith), begun-why (p .start .pair) _ _)
 rule-fits mark e p k m (errs q r) w = ((omega arith, omega arith), lost _ r (first-most p _ _ _))
 rule-fits mark e p k m (breaks h r) w = ((omega arith, omega arith), lost _ r (later-most (p .message) _ _))
-rule-fits mark e p k m (frames h r s) w = ((omega arith, omega arith), subst (λ (x : State). WordedIn x (framed p .message .why)) (sym (framed-quiet p)) tt)
-rule-fits mark e p k m (grows h r s) w = ((omega arith, omega arith), tt)
+rule-fits mark e p k m (frames h r s) w = ((omega arith, omega arith), framed-worded p)
+rule-fits mark e p k m (grows h r s) w = ((omega arith, omega arith), grown-why (p .message .part) (p .message) _ (subst (λ (st : State). WordedIn st (p .message .why)) h w))
 rule-fits mark e p k m (stops q r) w = ((omega arith, omega arith), tt)
 
 moved-time : (r : Run) (m : Move) → moved r m .time ≡ r .time

@@ -18,10 +18,10 @@ use Rattle.events.specs.Events.{isByte}
 use Rattle.events.specs.declared.Kind.{Kind}
 use Rattle.events.specs.declared.Kind.the-variants.{Byte}
 use Rattle.events.specs.declared.Event.{Event}
-use Rattle.talk.specs.Talk.{headReason, begun, laterReason, grown}
+use Rattle.talk.specs.Talk.{headReason, begunBy, laterReason, grown}
 use Rattle.talk.specs.declared.Message.{Message}
-use Rattle.demands.specs.Logs.{Log, none, _▷_, heardOf, bytesOf, heardIn, numberAfter, takenOf}
-use Rattle.demands.specs.Damage.{valuesOf}
+use Rattle.demands.specs.Editions.{ofCar}
+use Rattle.demands.specs.Logs.{Log, none, _▷_, heardOf, bytesOf, valuesOf, heardIn, numberAfter, takenOf}
 
 -- ---- their values
 pub values-both : (l k : List Event) → valuesOf (l ++ k) ≡ valuesOf l ++ valuesOf k
@@ -74,6 +74,24 @@ same-events es e =
     {y = takenOf es}
     (λ _ q. more-events (takenOf es) e q) (λ _ _. refl)
 
+-- any event adds some or none
+pub record Grows (es : Log) (e : Event) : Type 0 where
+  pub tail : List Event
+  pub events : bytesOf (takenOf (es ▷ e)) ≡ bytesOf (takenOf es) ++ tail
+
+pub grows : (es : Log) (e : Event) → Grows es e
+unfolding takenOf bytesOf
+grows es e = by-number (eqb (numberAfter (takenOf es) e) taken) refl
+  where
+    by-number : (c : Bool) → eqb (numberAfter (takenOf es) e) taken ≡ c → Grows es e
+    by-number true c = record { tail = if isByte (e .kind) then e ∷ [] else []; events = rw c refl }
+    by-number false c = record { tail = []; events = rw c (sym (append-nil (bytesOf (takenOf es)))) }
+
+pub heard-grows : (es : Log) (e : Event) → heardIn (es ▷ e) ≡ heardIn es ++ valuesOf (grows es e .tail)
+heard-grows es e =
+    sym (same-values (takenOf (es ▷ e))) ∙ ap valuesOf (grows es e .events) ∙ values-both (bytesOf (takenOf es)) (grows es e .tail)
+    ∙ ap (λ (l : List ℕ). l ++ valuesOf (grows es e .tail)) (same-values (takenOf es))
+
 -- ---- the reason that they give by the rules of crates/talk; it is the one that `reasonIn` says (`reasons-agree`)
 -- that of the first byte that fails after a message so far; none where no byte does
 unfoldable pub talkBehind : Message → List Event → ℕ
@@ -81,21 +99,25 @@ talkBehind m [] = noReason
 talkBehind m (b ∷ bs) =
     if eqb (laterReason m (b .side) (b .value)) noReason then talkBehind (grown m (b .value)) bs else laterReason m (b .side) (b .value)
 
+-- a first byte that is neither early nor stray has none on a car's link
+unfoldable pub valueReason : Pair → ℕ → ℕ
+valueReason pair v = if ofCar pair then noReason else headReason (pair .kb1) v
+
 -- from the first byte on
 unfoldable pub talkReason : Pair → List Event → ℕ
 talkReason pair [] = noReason
 talkReason pair (b ∷ bs) =
-    if eqb (headReason (pair .kb1) (b .value)) noReason then talkBehind (begun (b .side) (b .value)) bs else headReason (pair .kb1) (b .value)
+    if eqb (valueReason pair (b .value)) noReason then talkBehind (begunBy pair (b .side) (b .value)) bs else valueReason pair (b .value)
 
-pub head-wrong : (pair : Pair) (b : Event) (bs : List Event) → (headReason (pair .kb1) (b .value) ≡ noReason → ⊥)
-    → talkReason pair (b ∷ bs) ≡ headReason (pair .kb1) (b .value)
+pub head-wrong : (pair : Pair) (b : Event) (bs : List Event) → (valueReason pair (b .value) ≡ noReason → ⊥)
+    → talkReason pair (b ∷ bs) ≡ valueReason pair (b .value)
 unfolding talkReason
-head-wrong pair b bs n = rw (ne-eqb (headReason (pair .kb1) (b .value)) noReason n) refl
+head-wrong pair b bs n = rw (ne-eqb (valueReason pair (b .value)) noReason n) refl
 
-pub head-right : (pair : Pair) (b : Event) (bs : List Event) → headReason (pair .kb1) (b .value) ≡ noReason
-    → talkReason pair (b ∷ bs) ≡ talkBehind (begun (b .side) (b .value)) bs
+pub head-right : (pair : Pair) (b : Event) (bs : List Event) → valueReason pair (b .value) ≡ noReason
+    → talkReason pair (b ∷ bs) ≡ talkBehind (begunBy pair (b .side) (b .value)) bs
 unfolding talkReason
-head-right pair b bs q = rw (eq-eqb (headReason (pair .kb1) (b .value)) noReason q) refl
+head-right pair b bs q = rw (eq-eqb (valueReason pair (b .value)) noReason q) refl
 
 pub later-wrong : (m : Message) (b : Event) (bs : List Event) → (laterReason m (b .side) (b .value) ≡ noReason → ⊥)
     → talkBehind m (b ∷ bs) ≡ laterReason m (b .side) (b .value)

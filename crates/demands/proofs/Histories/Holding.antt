@@ -19,9 +19,10 @@ use Rattle.phases.specs.declared.State.the-variants.{Down, Starting, Quiet, Hel
 use Rattle.phases.specs.declared.Phase.{Phase}
 use Rattle.moves.specs.Moves.{still, makes}
 use Rattle.moves.specs.declared.Move.{Move}
-use Rattle.moves.proofs.Rules.{Moment, at-silence, at-p2, at-p3, at-window, at-closing, at-leaving, at-start, at-byte, at-stop, at-end, next, Unmoved, Rule}
-use Rattle.moves.proofs.Rules.{rests, breaks-off, waited, idled, expires, cuts-off, aborts, leaves, starts-slow, starts-fast, hurries, low, drops}
-use Rattle.moves.proofs.Rules.{strays, misses, connects, goes-on, opens, errs, breaks, frames, grows, stops}
+use Rattle.phases.proofs.StateTests.{held-is}
+use Rattle.moves.proofs.Rules.{Moment, at-silence, at-p2, at-p3, at-window, at-closing, at-leaving, at-start, at-cut, at-hearing, at-byte, at-stop, at-end, next, Unmoved, Rule}
+use Rattle.moves.proofs.Rules.{rests, ends-right, breaks-off, waited, idled, expires, cuts-off, aborts, leaves, starts-slow, starts-fast, hurries, low, drops}
+use Rattle.moves.proofs.Rules.{cut-right, cut-wrong, cut-held, strays, misses, connects, goes-on, opens, errs, breaks, frames, grows, stops}
 use Rattle.reports.specs.Reporting.{namesBytes}
 
 -- with n bytes named of h heard
@@ -86,7 +87,9 @@ module _ (n0 h0 : ℕ) where
   -- what was open is closed
   HoldsAt at-leaving st n h = Holds st n h × (h ≡ h0) × (n ≡ h)
   HoldsAt at-start st n h = Holds st n h × (h ≡ h0) × (n ≡ h)
-  -- a byte has been heard, and its rule is yet to come
+  -- a byte comes; it has been heard, and its rule is yet to come
+  HoldsAt at-cut st n h = Holds st n h × (h ≡ h0) × Same n0 (isStarting st) n
+  HoldsAt at-hearing st n h = Holds st n h × (h ≡ h0) × Same n0 (isStarting st) n
   HoldsAt at-byte st n h = Holds st n h0 × (h ≡ h0 + 1) × Same n0 (isStarting st) n
   HoldsAt at-stop st n h = Holds st n h
   HoldsAt at-end st n h = Holds st n h
@@ -115,14 +118,23 @@ module _ (n0 h0 : ℕ) where
     rest-holds at-closing u g = (g .0, g .1, holds-none (p .state) n h (u .0) (u .1) (g .0))
     rest-holds at-leaving u g = g
     rest-holds at-start u g = absurd u
+    rest-holds at-cut u g = g
+    rest-holds at-hearing u g = absurd u
     rest-holds at-byte u g = subst (λ (x : State). Holds x n h) (sym u) (let x = In Damage h0 u (g .0) in omega (arith, x, g .1))
     rest-holds at-stop u g = g
     rest-holds at-end u g = absurd u
 
+    -- nothing is held after a frame
+    framed-holds : h ≡ h0 → Holds (framed p .state) h h × (h ≡ h0) × Same n0 (isStarting (framed p .state)) h
+    unfolding isStarting
+    framed-holds z = subst (λ (x : State). Holds x h h × (h ≡ h0) × Same n0 (isStarting x) h) (sym (framed-quiet p)) (refl, z, tt)
+
     pub rule-goes : (k : Moment) (m : Move) → Rule mark e p k m → HoldsAt k (p .state) n h → Goes k n h m
     unfolding next namesBytes down starting connected settled holding damaged talking isStarting
     rule-goes k m (rests u) g = stays (rest-holds k u g)
-    rule-goes k m (breaks-off o s) g = reports refl (damage (holds-some (p .state) n h o (g .0))) (refl, g .1, tt)
+    rule-goes k m (ends-right x s r) g =
+        reports refl (frame (holds-some (p .state) n h (held-is x .1) (g .0))) (framed-holds (g .1))
+    rule-goes k m (breaks-off o s r) g = reports refl (damage (holds-some (p .state) n h o (g .0))) (refl, g .1, tt)
     rule-goes k m (waited q f t) g = reports refl (no-reply (In Quiet h q (g .0))) (In Quiet h q (g .0), g .1, tt)
     rule-goes k m (idled q f t) g = reports refl (left (In Quiet h q (g .0))) (In Quiet h q (g .0), g .1, tt)
     rule-goes k m (expires s o) g = reports refl (failure (In Starting h s (g .0))) (refl, g .1, tt)
@@ -134,6 +146,9 @@ module _ (n0 h0 : ℕ) where
     rule-goes k m (starts-fast w i l) g = let x : n ≤ h = omega (arith, g .2) in stays x
     rule-goes k m (hurries s i) g = reports refl (not-idle (g .2)) (g .2)
     rule-goes k m (low w i l) g = reports refl (failure (omega (arith, g .2))) refl
+    rule-goes k m (cut-right c r) g =
+        reports refl (frame (holds-some (p .state) n h (held-is (cut-held mark e p c) .1) (g .0))) (framed-holds (g .1))
+    rule-goes k m (cut-wrong c r) g = reports refl (damage (holds-some (p .state) n h (held-is (cut-held mark e p c) .1) (g .0))) (refl, g .1, tt)
     rule-goes k m (strays d) g = reports refl (outside (let x = In Down h0 d (g .0) in omega (arith, x, g .1))) refl
     rule-goes k m (misses s v) g = reports refl (failure (let x = In Starting h0 s (g .0) in omega (arith, x, g .1))) refl
     rule-goes k m (connects s v l) g = reports refl (success (let x = In Starting h0 s (g .0) in omega (arith, x, g .1))) refl

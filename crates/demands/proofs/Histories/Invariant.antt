@@ -24,7 +24,7 @@ use Rattle.phases.specs.Phases.{down}
 use Rattle.link.specs.Handling.{freshLink, handled, markAfter, linkAfter}
 use Rattle.link.specs.Stepping.{numberOf, refusedBy, takenBy, answerOf, countsAfter, stepOf}
 use Rattle.link.specs.declared.Link.{Link}
-use Rattle.link.proofs.Three.{three-enough}
+use Rattle.link.proofs.Four.{four-enough}
 use Rattle.demands.specs.Logs.{Log, none, _▷_, clockOf, markOf, countOf, heardOf, numberAfter, takenOf}
 use Rattle.demands.specs.Histories.{Host, after, reportsOf}
 use Rattle.demands.specs.Accounts.{countsOf, bytesIn, reportsIn}
@@ -127,7 +127,7 @@ handled-tiles h log xs e k q =
     let heards = a .heard ∙ heard-more b (e .value) (l .heard) (heardOf log) (k .heard) in
     let fews = few-more b (e .value) (countOf log) (heardOf log) (k .few) in
     let inside = holds-order (handled l e .phase .state) (handled l e .named) (handled l e .heard) (a .holds) in
-    record { tiled = rw (three-enough l e) (a .tiled); few = omega (arith, inside, heards, fews, t .room) }
+    record { tiled = rw (four-enough l e) (a .tiled); few = omega (arith, inside, heards, fews, t .room) }
 
 kept-taken : (h : Host Link) (log : Log) (xs : List Report) (e : Event) → Kept h log xs → numberAfter log e ≡ taken
     → Kept (takenHost h e) (log ▷ e) (xs ++ listed (handled (h .link) e .reports))

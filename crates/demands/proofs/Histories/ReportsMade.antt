@@ -15,7 +15,7 @@ use Rattle.link.specs.declared.Link.{Link}
 use Rattle.link.specs.declared.Answer.{Answer}
 use Rattle.link.specs.Telling.{handledTells}
 use Rattle.link.proofs.Long.{Long, fresh-long, step-long}
-use Rattle.link.proofs.Three.{three-enough}
+use Rattle.link.proofs.Four.{four-enough}
 use Rattle.demands.specs.Logs.{Log, none, _▷_, numberAfter, takenOf}
 use Rattle.demands.specs.Histories.{after, reportsTo, Says, Among, Tells}
 use Rattle.demands.proofs.Histories.Basics.{answer-refused}
@@ -25,7 +25,7 @@ use Rattle.demands.proofs.Moves.Causes.{Cause, cause-each}
 use Rattle.demands.specs.Ours.{ours}
 
 pub reports-made : (es : Log) (e : Event) → numberAfter (takenOf es) e ≡ taken → reportsTo ours es e ≡ handledTells (after ours es .link) e
-reports-made es e q = reports-taken es e q ∙ three-enough (after ours es .link) e
+reports-made es e q = reports-taken es e q ∙ four-enough (after ours es .link) e
 
 pub none-refused : (es : Log) (e : Event) → (numberAfter (takenOf es) e ≡ taken → ⊥) → reportsTo ours es e ≡ []
 unfolding refusedBy listed

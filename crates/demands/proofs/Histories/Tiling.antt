@@ -4,7 +4,7 @@
 use Prim.Native.Nat.{ℕ, _+_, _-_, _≤_, _<_}
 use mathlib.Core.Bool.{Bool, true, false, _||_}
 use mathlib.Core.List.{List, [], _∷_, _++_}
-use mathlib.Core.Path.{_≡_, refl, sym, subst, _∙_}
+use mathlib.Core.Path.{_≡_, refl, sym, subst, _∙_, ap}
 use native.Mathlib.Nat.{add-zero}
 use native.Mathlib.Omega.{arith}
 use borrow.Author.Tests.{le-leb}
@@ -20,9 +20,9 @@ use Rattle.events.specs.declared.Kind.the-variants.{Address, WakeUp, Byte, Tick
 use Rattle.events.specs.declared.Event.{Event}
 use Rattle.phases.specs.Phases.{isStarting}
 use Rattle.phases.specs.declared.Phase.{Phase}
-use Rattle.moves.specs.Moves.{makes}
+use Rattle.moves.specs.Moves.{makes, beforeByte}
 use Rattle.moves.specs.declared.Move.{Move}
-use Rattle.moves.proofs.Rules.{Moment, at-silence, at-closing, at-byte, at-end, next as later, by-address, Rule}
+use Rattle.moves.proofs.Rules.{Moment, at-silence, at-closing, at-hearing, at-byte, at-end, next as later, by-address, Rule}
 use Rattle.reports.specs.Reporting.{namesBytes, reportOf, told, moved}
 use Rattle.reports.specs.Counting.{share}
 use Rattle.reports.specs.declared.Report.{Report}
@@ -86,7 +86,10 @@ shut-heard r reason = moved-heard _ _ ∙ moved-heard _ _
 
 byte-heard : (r : Run) (e : Event) (mark : Micros) → r .heard < greatest → byteHeard r e mark .heard ≡ r .heard + 1
 unfolding byteHeard
-byte-heard r e mark few = moved-heard _ _ ∙ moved-heard (hearing r) _ ∙ sum-is (r .heard) 1 (omega arith)
+byte-heard r e mark few =
+    let r1 = moved r (beforeByte (r .phase) (e .side)) in
+    let h = moved-heard r (beforeByte (r .phase) (e .side)) in
+    moved-heard _ _ ∙ moved-heard (hearing r1) _ ∙ sum-is (r1 .heard) 1 (omega (arith, h)) ∙ ap (λ (n : ℕ). n + 1) h
 
 acted-heard : (k : Kind) (r : Run) (e : Event) (mark : Micros) → r .heard < greatest
     → actedBy k r e mark .heard ≡ (if isByte k then r .heard + 1 else r .heard)
@@ -138,7 +141,7 @@ module _ (l : Link) where
     abbrev I : Moment → Run → List Report → Type 0
     I k r xs = HoldsIn k r × J r xs
 
-    one-more : (r : Run) → HoldsIn at-closing r → HoldsIn at-byte (hearing r)
+    one-more : (r : Run) → HoldsIn at-hearing r → HoldsIn at-byte (hearing r)
     one-more r h =
         let more = sum-is (r .heard) 1 (omega (arith, h .1)) in
         (subst (Holds (r .phase .state) (r .named)) (h .1) (h .0), omega (arith, more, h .1), h .2)
@@ -147,7 +150,7 @@ module _ (l : Link) where
     unfolding handled handledTells
     held-walk g j =
         event-walk (l .mark) e I (λ k r xs m u i. (rule-holds e k r m u (i .0), moves k r xs m u (i .0) (i .1)))
-        (λ r xs i. (one-more r (i .0), hears r xs (i .1))) (λ r xs i. (i .0 .0, i .1)) (λ r xs i. (i .0 .0, i .1)) (begun l e) (found e g, j)
+        (λ r xs i. i) (λ r xs i. (one-more r (i .0), hears r xs (i .1))) (λ r xs i. (i .0 .0, i .1)) (λ r xs i. (i .0 .0, i .1)) (begun l e) (found e g, j)
 
   -- once A or W has closed what was open, none is held (and the kind of e plays no part in that)
   pub start-none : (e : Event) → Holds (l .phase .state) (l .named) (l .heard) → shut (passed (begun l e) (l .mark) (e .start)) restarted .named ≡ l .heard

@@ -20,7 +20,7 @@ use Rattle.events.specs.declared.Kind.the-variants.{Byte, Tick, Drop, Other}
 use Rattle.events.specs.declared.Event.{Event}
 use Rattle.phases.specs.Phases.{down}
 use Rattle.moves.specs.declared.Move.{Move}
-use Rattle.moves.proofs.Rules.{Moment, at-silence, at-p2, at-p3, at-window, at-closing, at-leaving, at-start, at-byte, at-stop, at-end, next, Rule}
+use Rattle.moves.proofs.Rules.{Moment, at-silence, at-p2, at-p3, at-window, at-closing, at-leaving, at-start, at-cut, at-hearing, at-byte, at-stop, at-end, next, Rule}
 use Rattle.moves.proofs.Rules.{rests, starts-slow, starts-fast, hurries, low}
 use Rattle.reports.specs.Reporting.{reportOf, listed, moved}
 use Rattle.reports.specs.declared.Report.{Report}
@@ -29,11 +29,12 @@ use Rattle.link.specs.Handling.{freshLink, passed, begun, handled, linkAfter}
 use Rattle.link.specs.Telling.{tells, handledTells}
 use Rattle.link.specs.declared.Link.{Link}
 use Rattle.link.proofs.Walk.{moved-phase, Reached, Here, BeforeStart, event-walk-by}
-use Rattle.link.proofs.Three.{three-enough}
+use Rattle.link.proofs.Four.{four-enough}
 use Rattle.demands.specs.Logs.{Log, none, _▷_, numberAfter, takenOf, InBytes}
 use Rattle.demands.specs.Histories.{after, reportsTo, folded}
 use Rattle.demands.specs.Endings.{Starter}
 use Rattle.demands.specs.Idle.{p3minIn, idleAfter, isDrop, idleIn, askedAfter, idleAsked}
+use Rattle.demands.proofs.Histories.CarsFit.{fitting-of}
 use Rattle.demands.specs.Ours.{ours}
 use Rattle.demands.proofs.Histories.TakenOnly.{ours-passes, next-same}
 use Rattle.demands.proofs.Moves.Entering.{judging}
@@ -103,8 +104,8 @@ module _ (l : Link) (e : Event) (p3 s : Micros) (idle : IdleAt s (l .phase)) (fo
   event-idle : IdleAt (if isDrop (e .kind) then idleAtPowerOn else folded (idleAfter p3) s (listed (handled l e .reports))) (handled l e .phase)
   unfolding handled handledTells begun folded
   event-idle =
-      rw (three-enough l e)
-      (event-walk-by (l .mark) e (begun l e) I moves (λ _ r xs i. i) (λ k r xs i. rw (drop-is k) (i .1 k)) ends (idle, force))
+      rw (four-enough l e)
+      (event-walk-by (l .mark) e (begun l e) I moves (λ _ r xs i. i) (λ _ r xs i. i) (λ k r xs i. rw (drop-is k) (i .1 k)) ends (idle, force))
 
   -- the idle time that a start is judged by
   module _ (starter : Starter e) where
@@ -123,6 +124,8 @@ module _ (l : Link) (e : Event) (p3 s : Micros) (idle : IdleAt s (l .phase)) (fo
     K at-closing r xs = At (l .mark) e p3 at-closing (r .phase) (asked xs)
     K at-leaving r xs = At (l .mark) e p3 at-leaving (r .phase) (asked xs)
     K at-start r xs = At (l .mark) e p3 at-start (r .phase) (asked xs)
+    K at-cut r xs = Unit {0}
+    K at-hearing r xs = Unit {0}
     K at-byte r xs = Unit {0}
     K at-stop r xs = Unit {0}
     K at-end r xs = judging l e .idle ≡ asked xs
@@ -154,6 +157,8 @@ module _ (l : Link) (e : Event) (p3 s : Micros) (idle : IdleAt s (l .phase)) (fo
     judges at-leaving w r h xs m u i = asks at-leaving tt r xs m u i
     judges at-start w r h xs m u i =
         sym (ap (λ p. p .idle) h) ∙ i .0 w .1 ∙ sym (start-asks r m (asked xs) u) ∙ sym (folded-move p3 (askedAfter p3) asked-same r m s xs)
+    judges at-cut w r h xs m u i = tt
+    judges at-hearing w r h xs m u i = tt
     judges at-byte w r h xs m u i = tt
     judges at-stop w r h xs m u i = absurd (no-byte w)
     judges at-end w r h xs m (rests u) i = absurd u
@@ -161,8 +166,8 @@ module _ (l : Link) (e : Event) (p3 s : Micros) (idle : IdleAt s (l .phase)) (fo
     judged-idle : judging l e .idle ≡ folded (askedAfter p3) s (listed (handled l e .reports))
     unfolding handled handledTells begun folded
     judged-idle =
-        rw (three-enough l e)
-        (event-walk-by (l .mark) e (begun l e) K judges (λ _ r xs i. tt) (λ k r xs i. absurd (drop-starts e k starter))
+        rw (four-enough l e)
+        (event-walk-by (l .mark) e (begun l e) K judges (λ _ r xs i. tt) (λ _ r xs i. tt) (λ k r xs i. absurd (drop-starts e k starter))
         (λ k r xs i. absurd (no-tick k)) (idle, force))
       where
         no-tick : (e .kind ≡ Tick) ⊎ (e .kind ≡ Other) → ⊥
@@ -172,7 +177,7 @@ module _ (l : Link) (e : Event) (p3 s : Micros) (idle : IdleAt s (l .phase)) (fo
 -- ---- A HISTORY
 in-force : (es : Log) (e : Event) → InBytes es → Force (after ours es .link .mark) e (p3minIn ours (takenOf es)) (after ours es .link .phase)
 unfolding p3minIn
-in-force es e b c = ap (λ (w : Windows). w .p3min) (windows-link es b c)
+in-force es e b = (λ c. ap (λ (w : Windows). w .p3min) (windows-link es b c), fitting-of es)
 
 module _ (es : Log) (e : Event) (b : InBytes es) (h : IdleAt (idleIn ours (takenOf es)) (after ours es .link .phase)) where
   abbrev l : Link

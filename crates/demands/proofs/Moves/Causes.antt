@@ -20,16 +20,16 @@ use Rattle.events.specs.declared.Kind.{Kind}
 use Rattle.events.specs.declared.Kind.the-variants.{Address, WakeUp, Byte, Tick, Drop, Other}
 use Rattle.events.specs.declared.Event.{Event}
 use Rattle.starts.specs.Starts.{fits, isFrom, isEarly, judged, isOver, isLast, onward}
-use Rattle.talk.specs.Talk.{isStopped}
+use Rattle.talk.specs.Talk.{endReason, isSum, isStopped}
 use Rattle.phases.specs.Phases.{isStarting, isQuiet, isOpen, isConnected, down, off, starting, connected, talking, holding, damaged, settled, timed, asked, answered, framed}
-use Rattle.phases.specs.declared.State.the-variants.{Quiet}
+use Rattle.phases.specs.declared.State.the-variants.{Quiet, Held}
 use Rattle.phases.specs.declared.Phase.{Phase}
-use Rattle.phases.proofs.StateTests.{is-starting, is-quiet, open-connected, quiet-connected, open-or-quiet, never-starting, quiet-is, starting-is}
-use Rattle.moves.specs.Moves.{makes, lossReason, isSilent, sinceOrigin, isIdle, isGoodLow}
+use Rattle.phases.proofs.StateTests.{is-starting, is-quiet, open-connected, quiet-connected, open-or-quiet, never-starting, quiet-is, held-is, starting-is}
+use Rattle.moves.specs.Moves.{makes, lossReason, isRight, isSilent, isCutIn, sinceOrigin, isIdle, isGoodLow}
 use Rattle.moves.specs.declared.Move.{Move}
-use Rattle.moves.proofs.Rules.{Moment, at-silence, at-p2, at-p3, at-window, at-closing, at-leaving, at-start, at-byte, at-stop, at-end, next}
-use Rattle.moves.proofs.Rules.{Closes, by-drop, by-address, by-wake-up, Rule, rests, breaks-off, cuts-off, aborts, leaves, drops, starts-slow, starts-fast, hurries, low}
-use Rattle.moves.proofs.Rules.{strays, misses, connects, goes-on, opens, errs, breaks, frames, grows, stops, one-move}
+use Rattle.moves.proofs.Rules.{Moment, at-silence, at-p2, at-p3, at-window, at-closing, at-leaving, at-start, at-cut, at-hearing, at-byte, at-stop, at-end, next}
+use Rattle.moves.proofs.Rules.{Closes, by-drop, by-address, by-wake-up, Rule, rests, ends-right, breaks-off, cuts-off, aborts, leaves, drops, starts-slow, starts-fast, hurries, low}
+use Rattle.moves.proofs.Rules.{cut-right, cut-wrong, cut-held, strays, misses, connects, goes-on, opens, errs, breaks, frames, grows, stops, one-move}
 use Rattle.reports.specs.declared.Report.{Report}
 use Rattle.reports.specs.Reporting.{moved}
 use Rattle.reports.specs.declared.Run.{Run}
@@ -40,11 +40,13 @@ use Rattle.link.proofs.Walk.{moved-phase, Reached, Here, time-walk-by, event-wa
 use Rattle.link.proofs.Long.{Long}
 use Rattle.demands.specs.Histories.{Tells}
 use Rattle.demands.specs.Endings.{Starter}
+use Rattle.demands.proofs.Histories.Holding.{framed-quiet}
 use Rattle.demands.proofs.Moves.ReportsInList.{each-none, each-both, tells-left, tells-right, move-tells, EachOf, Makes, silent, move-each}
 use Rattle.demands.proofs.Moves.Entering.{In, Open, judges, Completes, judging, hasIdled, Leads, begins-slow, begins-fast, waits}
 use Rattle.demands.proofs.Moves.Entering.{grows as goes-further}
-use Rattle.demands.proofs.Moves.TimePasses.{Waited, Idled, Over, Lasts, First, found, Second, Third, Fourth, Left, IsDown, due-second, due-third, due-fourth}
-use Rattle.demands.proofs.Moves.TimePasses.{first-rule, second-rule, third-rule, fourth-rule, in-left, still-in, up-left, still-up, down-left, is-down, still-open}
+use Rattle.demands.proofs.Moves.TimePasses.{Waited, Idled, Over, Lasts, First, found, Second, Third, Fourth, Left, IsDown, due-second, due-third, due-fourth, idled-up}
+use Rattle.demands.proofs.Moves.TimePasses.{Come, uncut, cut, up-come, in-come, down-come, open-come, still-in-come, is-down-come}
+use Rattle.demands.proofs.Moves.TimePasses.{first-rule, second-rule, third-rule, fourth-rule, in-left, still-in, up-left, open-left, still-up, still-open}
 
 -- ---- kinds apart
 -- A, W or D
@@ -125,6 +127,12 @@ module _ (l : Link) (e : Event) where
   of-low (falls-short w i g) z = (w, i, g)
   of-low (wrong i o b h) z = absurd (omega arith)
 
+  -- of a report 1: a message that was right as it ended, by silence or by a byte that cuts in, or one whose checksum comes
+  pub data FrameBy : Type 0 where
+    by-gap : p .state ≡ Held → eqb (endReason (p .message)) noReason ≡ true → isSilent gap ≡ true → FrameBy
+    by-cut : eqb (endReason (p .message)) noReason ≡ true → isCutIn p (e .side) ≡ true → isSilent gap ≡ false → e .kind ≡ Byte → FrameBy
+    by-sum : p .state ≡ Held → isSum (p .message .part) ≡ true → isSilent gap ≡ false → e .kind ≡ Byte → FrameBy
+
   -- of a report 7, by its reason, on a connected link
   abbrev pub DownFor : ℕ → Type 0
   DownFor k =
@@ -136,7 +144,7 @@ module _ (l : Link) (e : Event) where
   -- of any, by its number
   abbrev pub Cause : ℕ → ℕ → Type 0
   Cause n k =
-      when (eqb n frameReport) (Up p)
+      when (eqb n frameReport) (Up p × FrameBy)
       (when (eqb n damageReport) (Up p)
       (when (eqb n connectedReport) (Completes l e)
       (when (eqb n failedReport) (Fails k)
@@ -171,7 +179,9 @@ module _ (l : Link) (e : Event) where
   J at-closing q = Left (l .mark) e p q
   J at-leaving q = Shut q
   J at-start q = IsOff q
-  J at-byte q = Left (l .mark) e p q
+  J at-cut q = Left (l .mark) e p q
+  J at-hearing q = Come (l .mark) e p q
+  J at-byte q = Come (l .mark) e p q
   J at-stop q = Heard q
   J at-end q = After q
 
@@ -247,18 +257,32 @@ module _ (l : Link) (e : Event) where
   heard-up : (q : Phase) → isStarting (q .state) ≡ false → Up p → Heard q
   heard-up q s u = record { after = (λ i. absurd (false≢true (sym s ∙ i)), λ _. inl u); stops-up = λ _ _. u }
 
-  byte-rule : (q : Phase) (m : Move) → e .kind ≡ Byte → Left (l .mark) e p q → At at-byte q m → Heard (m .phase) × Makes Cause m
+  -- a byte that cuts in ends what was held, of a link that was connected
+  cut-rule : (q : Phase) (m : Move) → e .kind ≡ Byte → Left (l .mark) e p q → At at-cut q m → Come (l .mark) e p (m .phase) × Makes Cause m
+  unfolding settled talking isQuiet
+  cut-rule q m k j (rests u) = (uncut j, silent Cause q)
+  cut-rule q m k j (cut-right c r) =
+      let o = held-is (cut-held (l .mark) e q c) .1 in
+      let x = up-left _ e p j (open-connected (q .state) o) in
+      let y = open-left _ e p j o in
+      let by : FrameBy = by-cut (sym (ap (λ (z : Phase). eqb (endReason (z .message)) noReason) (y .0)) ∙ r) (sym (ap (λ (z : Phase). isCutIn z (e .side)) (y .0)) ∙ c) (y .1) k in
+      (cut (x .0) (x .1) (ap isQuiet (framed-quiet q)), λ _. (x .0, by))
+  cut-rule q m k j (cut-wrong c r) =
+      let x = up-left _ e p j (open-connected (q .state) (held-is (cut-held (l .mark) e q c) .1)) in
+      (cut (x .0) (x .1) refl, λ _. x .0)
+
+  byte-rule : (q : Phase) (m : Move) → e .kind ≡ Byte → Come (l .mark) e p q → At at-byte q m → Heard (m .phase) × Makes Cause m
   unfolding starting connected talking holding damaged isStarting isConnected isQuiet isStopped
-  byte-rule q m k j (rests d) = (heard-up q (ap isStarting d) (up-left _ e p j (ap isConnected d) .0), silent Cause q)
-  byte-rule q m k j (strays d) = (heard-off (q .idle), λ _. (down-left _ e p j d, k))
+  byte-rule q m k j (rests d) = (heard-up q (ap isStarting d) (up-come _ e p j (ap isConnected d) .0), silent Cause q)
+  byte-rule q m k j (strays d) = (heard-off (q .idle), λ _. (down-come _ e p j d, k))
   byte-rule q m k j (misses s v) =
-      let x = in-left _ e p j (starting-is s) in (
+      let x = in-come _ e p j (starting-is s) in (
         heard-off _,
         λ _. subst (λ (y : Phase). eqb (judges l e y) noReason ≡ false → Fails (judges l e y)) (sym (x .0))
             (λ z. wrong (x .1) (x .2) k (judged-above p z)) v,
       )
   byte-rule q m k j (connects s v z) =
-      let x = in-left _ e p j (starting-is s) in
+      let x = in-come _ e p j (starting-is s) in
       let c : Completes l e = record {
         byte = k;
         was = x .1;
@@ -268,7 +292,7 @@ module _ (l : Link) (e : Event) where
       } in
       (record { after = (λ i. absurd (false≢true i), λ _. inr c); stops-up = λ _ r. absurd (false≢true r) }, λ _. c)
   byte-rule q m k j (goes-on s v z) =
-      let x = in-left _ e p j (starting-is s) in
+      let x = in-come _ e p j (starting-is s) in
       let g = goes-further k (x .1) (open-window (x .2) (x .1)) (sym (ap (judges l e) (x .0)) ∙ eqb-true (judges l e q) noReason v)
       (sym (ap (λ (y : Phase). isLast (y .start .stage)) (x .0)) ∙ z) in (
         record {
@@ -280,11 +304,15 @@ module _ (l : Link) (e : Event) where
         },
         silent Cause (m .phase),
       )
-  byte-rule q m k j (opens h r) = (heard-up (m .phase) refl (up-left _ e p j (ap isConnected h) .0), silent Cause (m .phase))
-  byte-rule q m k j (errs h r) = (heard-up (m .phase) refl (up-left _ e p j (ap isConnected h) .0), silent Cause (m .phase))
-  byte-rule q m k j (breaks h r) = (heard-up (m .phase) refl (up-left _ e p j (ap isConnected h) .0), silent Cause (m .phase))
-  byte-rule q m k j (grows h r z) = (heard-up (m .phase) refl (up-left _ e p j (ap isConnected h) .0), silent Cause (m .phase))
-  byte-rule q m k j (frames h r z) = let u = up-left _ e p j (ap isConnected h) .0 in (heard-up (m .phase) (framed-apart q) u, λ _. u)
+  byte-rule q m k j (opens h r) = (heard-up (m .phase) refl (up-come _ e p j (ap isConnected h) .0), silent Cause (m .phase))
+  byte-rule q m k j (errs h r) = (heard-up (m .phase) refl (up-come _ e p j (ap isConnected h) .0), silent Cause (m .phase))
+  byte-rule q m k j (breaks h r) = (heard-up (m .phase) refl (up-come _ e p j (ap isConnected h) .0), silent Cause (m .phase))
+  byte-rule q m k j (grows h r z) = (heard-up (m .phase) refl (up-come _ e p j (ap isConnected h) .0), silent Cause (m .phase))
+  byte-rule q m k j (frames h r z) =
+      let u = up-come _ e p j (ap isConnected h) .0 in
+      let y = open-come _ e p j (held-is h .1) in
+      let by : FrameBy = by-sum (sym (ap (λ (x : Phase). x .state) (y .0)) ∙ h) (sym (ap (λ (x : Phase). isSum (x .message .part)) (y .0)) ∙ z) (y .1) k in
+      (heard-up (m .phase) (framed-apart q) u, λ _. (u, by))
 
   stop-rule : (q : Phase) (m : Move) → Heard q → At at-stop q m → After (m .phase) × Makes Cause m
   unfolding down isStarting isConnected
@@ -296,13 +324,16 @@ module _ (l : Link) (e : Event) where
 
   rule : (k : Moment) → Reached e k → (q : Phase) → Found k q → (m : Move) → At k q m → J k q → J (next k) (m .phase) × Makes Cause m
   unfolding next
-  rule at-silence w q h m u j = first-rule _ e p Cause (λ o k. open-connected (p .state) o) q m j u
+  rule at-silence w q h m u j =
+      first-rule _ e p Cause (λ o k. open-connected (p .state) o) (λ x s r. (open-connected (p .state) (held-is x .1), by-gap x r s)) q m j u
   rule at-p2 w q h m u j = second-rule _ e p Cause (λ x. x) q m j u
-  rule at-p3 w q h m u j = third-rule _ e p Cause (λ i. (i .0, i)) q m j u
+  rule at-p3 w q h m u j = third-rule _ e p Cause (λ i. (idled-up _ e p i, i)) q m j u
   rule at-window w q h m u j = fourth-rule _ e p Cause runs-out q m j u
   rule at-closing w q h m u j = closing-rule q m w j u
   rule at-leaving w q h m u j = leaving-rule q m j u
   rule at-start w q h m u j = start-rule q m h u
+  rule at-cut w q h m u j = cut-rule q m w j u
+  rule at-hearing w q h m (rests u) j = absurd u
   rule at-byte w q h m u j = byte-rule q m w j u
   rule at-stop w q h m u j = stop-rule q m j u
   rule at-end w q h m (rests u) j = absurd u
@@ -335,7 +366,7 @@ module _ (l : Link) (e : Event) where
   whole : I at-end (handled l e) (handledTells l e)
   unfolding handled handledTells begun
   whole =
-      event-walk-by (l .mark) e (begun l e) I moves (λ _ r xs i. i) (λ _ r xs i. (leaves-on (r .phase) (i .0), i .1))
+      event-walk-by (l .mark) e (begun l e) I moves (λ _ r xs i. i) (λ _ r xs i. i) (λ _ r xs i. (leaves-on (r .phase) (i .0), i .1))
       (λ k r xs i. (ends-on k (r .phase) (i .0), i .1)) (found, each-none (λ (y : Report). Cause (y .number) (y .reason)))
 
   -- EACH OF ITS REPORTS HAS A CAUSE
@@ -359,25 +390,37 @@ module _ (l : Link) (e : Event) where
   data Due (n s : ℕ) : Moment → Type 0 where
     now : {k : Moment} → Reached e k → (to : Phase → Phase) → ((q : Phase) → Found k q → J k q → At k q (makes n s (to q))) → Due n s k
     later : {k : Moment} → Reached e k → Due n s (next k) → Due n s k
-    heard : e .kind ≡ Byte → Due n s at-byte → Due n s at-closing
+    comes : e .kind ≡ Byte → Due n s at-cut → Due n s at-closing
+    hears : Due n s at-byte → Due n s at-hearing
 
   module _ (n s : ℕ) (some : eqb n 0 ≡ false) where
     abbrev Made : Moment → Run → List Report → Type 0
     Made k r xs = J k (r .phase) × (Due n s k ⊎ Tells n s xs)
+
+    none-heard : (q : Phase) (m : Move) → At at-hearing q m → ⊥
+    none-heard q m (rests u) = u
 
     on : (k : Moment) → Reached e k → (r : Run) → Found k (r .phase) → (xs : List Report) (m : Move) → At k (r .phase) m → J k (r .phase) → Due n s k ⊎ Tells n s xs
         → Due n s (next k) ⊎ Tells n s (xs ++ tells r m)
     on k w r h xs m u j (inl (now v to f)) =
         inr (tells-right n s xs (tells r m) (move-tells r m n s (to (r .phase)) some (one-move _ e (r .phase) u (f (r .phase) h j))))
     on k w r h xs m u j (inl (later v d)) = inl d
-    on k w r h xs m u j (inl (heard b d)) = absurd (no-closer e Byte refl b w)
+    on k w r h xs m u j (inl (comes b d)) = absurd (no-closer e Byte refl b w)
+    on k w r h xs m u j (inl (hears d)) = absurd (none-heard (r .phase) m u)
     on k w r h xs m u j (inr t) = inr (tells-left n s xs (tells r m) t)
 
-    on-byte : e .kind ≡ Byte → (xs : List Report) → Due n s at-closing ⊎ Tells n s xs → Due n s at-byte ⊎ Tells n s xs
-    on-byte b xs (inl (now v to f)) = absurd (no-closer e Byte refl b v)
-    on-byte b xs (inl (later v d)) = absurd (no-closer e Byte refl b v)
-    on-byte b xs (inl (heard _ d)) = inl d
-    on-byte b xs (inr t) = inr t
+    on-comes : e .kind ≡ Byte → (xs : List Report) → Due n s at-closing ⊎ Tells n s xs → Due n s at-cut ⊎ Tells n s xs
+    on-comes b xs (inl (now v to f)) = absurd (no-closer e Byte refl b v)
+    on-comes b xs (inl (later v d)) = absurd (no-closer e Byte refl b v)
+    on-comes b xs (inl (comes _ d)) = inl d
+    on-comes b xs (inr t) = inr t
+
+    on-hears : (q : Phase) → J at-hearing q → (xs : List Report) → Due n s at-hearing ⊎ Tells n s xs → Due n s at-byte ⊎ Tells n s xs
+    unfolding next
+    on-hears q j xs (inl (now v to f)) = absurd (none-heard q (makes n s (to q)) (f q tt j))
+    on-hears q j xs (inl (later v d)) = inl d
+    on-hears q j xs (inl (hears d)) = inl d
+    on-hears q j xs (inr t) = inr t
 
     on-drop : e .kind ≡ Drop → (xs : List Report) → Due n s at-start ⊎ Tells n s xs → Tells n s xs
     on-drop k xs (inl (now v to f)) = absurd (drop-starts e k v)
@@ -387,7 +430,7 @@ module _ (l : Link) (e : Event) where
     on-tick : (k : Kind) → isCloser k ≡ false → isByte k ≡ false → e .kind ≡ k → (xs : List Report) → Due n s at-closing ⊎ Tells n s xs → Tells n s xs
     on-tick k c b q xs (inl (now v to f)) = absurd (no-closer e k c q v)
     on-tick k c b q xs (inl (later v d)) = absurd (no-closer e k c q v)
-    on-tick k c b q xs (inl (heard h d)) = absurd (no-byte e k b q h)
+    on-tick k c b q xs (inl (comes h d)) = absurd (no-byte e k b q h)
     on-tick k c b q xs (inr t) = t
 
     ticks : (e .kind ≡ Tick) ⊎ (e .kind ≡ Other) → (xs : List Report) → Due n s at-closing ⊎ Tells n s xs → Tells n s xs
@@ -412,18 +455,44 @@ module _ (l : Link) (e : Event) where
     made d =
         in-the-end (handled l e) (handledTells l e)
         (event-walk-by (l .mark) e (begun l e) Made (λ k w r h xs m u i. (keeps k r m (rule k w (r .phase) h m u (i .0) .0), on k w r h xs m u (i .0) (i .1)))
-        (λ b r xs i. (i .0, on-byte b xs (i .1))) (λ k r xs i. (leaves-on (r .phase) (i .0), inr (on-drop k xs (i .1))))
+        (λ b r xs i. (i .0, on-comes b xs (i .1))) (λ b r xs i. (i .0, on-hears (r .phase) (i .0) xs (i .1))) (λ k r xs i. (leaves-on (r .phase) (i .0), inr (on-drop k xs (i .1))))
         (λ k r xs i. (ends-on k (r .phase) (i .0), inr (ticks k xs (i .1)))) (found, inl d))
 
   acting : {n s : ℕ} → Due n s at-closing → Due n s at-silence
   unfolding next
   acting d = later tt (later tt (later tt (later tt d)))
 
-  pub broken-made : isOpen (p .state) ≡ true → isSilent gap ≡ true → Tells damageReport (lossReason p brokenOff) (handledTells l e)
-  broken-made o s = made damageReport (lossReason p brokenOff) refl (now tt settled first)
+  -- what is open ends as damage or in a frame: by silence, ..
+  pub broken-made : isOpen (p .state) ≡ true → isSilent gap ≡ true → isRight p ≡ false
+      → Tells damageReport (lossReason p (endReason (p .message))) (handledTells l e)
+  broken-made o s r = made damageReport (lossReason p (endReason (p .message))) refl (now tt settled first)
     where
-      first : (q : Phase) → Found at-silence q → First (l .mark) e p q → At at-silence q (makes damageReport (lossReason p brokenOff) (settled q))
-      first q _ found = breaks-off o s
+      first : (q : Phase) → Found at-silence q → First (l .mark) e p q → At at-silence q (makes damageReport (lossReason p (endReason (p .message))) (settled q))
+      first q _ found = breaks-off o s r
+
+  pub right-made : p .state ≡ Held → isSilent gap ≡ true → eqb (endReason (p .message)) noReason ≡ true → Tells frameReport noReason (handledTells l e)
+  right-made h s r = made frameReport noReason refl (now tt framed first)
+    where
+      first : (q : Phase) → Found at-silence q → First (l .mark) e p q → At at-silence q (makes frameReport noReason (framed q))
+      first q _ found = ends-right h s r
+
+  -- .. or by a byte that cuts in, before 20 ms have passed
+  cuts : {n s : ℕ} → e .kind ≡ Byte → Due n s at-cut → Due n s at-silence
+  cuts k d = acting (comes k d)
+
+  pub cut-wrong-made : Long p → e .kind ≡ Byte → isCutIn p (e .side) ≡ true → isSilent gap ≡ false → eqb (endReason (p .message)) noReason ≡ false
+      → Tells damageReport (endReason (p .message)) (handledTells l e)
+  cut-wrong-made g k c s r =
+      made damageReport (endReason (p .message)) refl
+      (cuts k (now k settled (λ q _ j. subst (λ (y : Phase). At at-cut y (makes damageReport (endReason (p .message)) (settled y)))
+      (sym (still-open _ e p j g (held-is (cut-held (l .mark) e p c) .1) s)) (cut-wrong c r))))
+
+  pub cut-right-made : Long p → e .kind ≡ Byte → isCutIn p (e .side) ≡ true → isSilent gap ≡ false → eqb (endReason (p .message)) noReason ≡ true
+      → Tells frameReport noReason (handledTells l e)
+  cut-right-made g k c s r =
+      made frameReport noReason refl
+      (cuts k (now k framed (λ q _ j. subst (λ (y : Phase). At at-cut y (makes frameReport noReason (framed y)))
+      (sym (still-open _ e p j g (held-is (cut-held (l .mark) e p c) .1) s)) (cut-right c r))))
 
   pub cut-made : Long p → isOpen (p .state) ≡ true → isSilent gap ≡ false → Closer e → Tells damageReport (lossReason p closed) (handledTells l e)
   cut-made g o s c =
@@ -471,18 +540,23 @@ module _ (l : Link) (e : Event) where
   low-made k i g =
       made failedReport wrongLow refl (acting (later (inl (inr k)) (later (inl (inr k)) (now (inr k) (λ _. off) (λ q h j. low k (idle-found h i) g)))))
 
+  -- a byte acts, once it has come and is heard
+  hearing-due : {n s : ℕ} → e .kind ≡ Byte → Due n s at-byte → Due n s at-silence
+  unfolding next
+  hearing-due k d = acting (comes k (later k (hears d)))
+
   pub outside-made : Long p → IsDown (l .mark) e p → e .kind ≡ Byte → Tells outsideReport noReason (handledTells l e)
-  outside-made g d k = made outsideReport noReason refl (acting (heard k (now k (λ (q : Phase). down (q .idle)) (λ q _ j. strays (is-down _ e p j g d)))))
+  outside-made g d k = made outsideReport noReason refl (hearing-due k (now k (λ (q : Phase). down (q .idle)) (λ q _ j. strays (is-down-come _ e p j g d))))
 
   pub wrong-made : e .kind ≡ Byte → In p → (RanOut → ⊥) → eqb (judges l e p) noReason ≡ false → Tells failedReport (judges l e p) (handledTells l e)
   wrong-made k i n v =
       made failedReport (judges l e p) refl
-      (acting (heard k (now k (λ _. off) (λ q _ j. subst (λ (y : Phase). At at-byte y (makes failedReport (judges l e p) off)) (sym (still-in _ e p j i n))
-      (misses (is-starting (p .state) i) v)))))
+      (hearing-due k (now k (λ _. off) (λ q _ j. subst (λ (y : Phase). At at-byte y (makes failedReport (judges l e p) off)) (sym (still-in-come _ e p j i n))
+      (misses (is-starting (p .state) i) v))))
 
   pub last-made : e .kind ≡ Byte → In p → (RanOut → ⊥) → judges l e p ≡ noReason → isLast (p .start .stage) ≡ true
       → Tells connectedReport noReason (handledTells l e)
   last-made k i n v z =
       made connectedReport noReason refl
-      (acting (heard k (now k (λ (q : Phase). connected (q .start)) (λ q _ j. subst (λ (y : Phase). At at-byte y (makes connectedReport noReason (connected (y .start))))
-      (sym (still-in _ e p j i n)) (connects (is-starting (p .state) i) (eq-eqb (judges l e p) noReason v) z)))))
+      (hearing-due k (now k (λ (q : Phase). connected (q .start)) (λ q _ j. subst (λ (y : Phase). At at-byte y (makes connectedReport noReason (connected (y .start))))
+      (sym (still-in-come _ e p j i n)) (connects (is-starting (p .state) i) (eq-eqb (judges l e p) noReason v) z))))

@@ -21,6 +21,6 @@ Other12 x = (x .number ≡ frameReport → ⊥) × (x .number ≡ damageReport �
 -- A LINK THAT IS NOT CONNECTED REPORTS NEITHER
 pub none-unconnected : (es : Log) (e : Event) → isConnected (after ours es .link .phase .state) ≡ false → Each Other12 (reportsTo ours es e)
 none-unconnected es e c x i = (
-  λ n. false≢true (sym c ∙ subst (λ (k : ℕ). CauseAt es e k (x .reason)) n (cause-at es e x i)),
+  λ n. false≢true (sym c ∙ subst (λ (k : ℕ). CauseAt es e k (x .reason)) n (cause-at es e x i) .0),
   λ n. false≢true (sym c ∙ subst (λ (k : ℕ). CauseAt es e k (x .reason)) n (cause-at es e x i)),
 )

@@ -16,8 +16,8 @@ use Rattle.phases.specs.Phases.{isStarting}
 use Rattle.phases.specs.declared.State.{State}
 use Rattle.phases.specs.declared.State.the-variants.{Starting}
 use Rattle.moves.specs.declared.Move.{Move}
-use Rattle.moves.proofs.Rules.{Moment, Rule, rests, breaks-off, waited, idled, expires, cuts-off, aborts, leaves, starts-slow, starts-fast, hurries, low, drops}
-use Rattle.moves.proofs.Rules.{strays, misses, connects, goes-on, opens, errs, breaks, frames, grows, stops}
+use Rattle.moves.proofs.Rules.{Moment, Rule, rests, ends-right, breaks-off, waited, idled, expires, cuts-off, aborts, leaves, starts-slow, starts-fast, hurries, low, drops}
+use Rattle.moves.proofs.Rules.{cut-right, cut-wrong, strays, misses, connects, goes-on, opens, errs, breaks, frames, grows, stops}
 use Rattle.reports.specs.Reporting.{namesBytes, reportOf}
 use Rattle.reports.specs.declared.Report.{Report}
 use Rattle.reports.specs.declared.Run.{Run}
@@ -67,7 +67,8 @@ module _ (l : Link) (e : Event) where
   rule-four : (k : Moment) (r : Run) (m : Move) → Rule (l .mark) e (r .phase) k m → HoldsIn l k r → Four (reportOf r (m .number) (m .reason))
   unfolding reportOf namesBytes failedBytes isStarting
   rule-four k r m (rests u) g z = absurd (omega arith)
-  rule-four k r m (breaks-off o s) g z = absurd (omega arith)
+  rule-four k r m (ends-right h s w) g z = absurd (omega arith)
+  rule-four k r m (breaks-off o s w) g z = absurd (omega arith)
   rule-four k r m (waited q f t) g z = absurd (omega arith)
   rule-four k r m (idled q f t) g z = absurd (omega arith)
   rule-four k r m (expires s o) g z = let x = same (r .named) s (g .2) in omega (arith, x, g .1)
@@ -79,6 +80,8 @@ module _ (l : Link) (e : Event) where
   rule-four k r m (starts-fast w i o) g z = absurd (omega arith)
   rule-four k r m (hurries s i) g z = absurd (omega arith)
   rule-four k r m (low w i o) g z = omega (arith, g .2)
+  rule-four k r m (cut-right c w) g z = absurd (omega arith)
+  rule-four k r m (cut-wrong c w) g z = absurd (omega arith)
   rule-four k r m (strays d) g z = absurd (omega arith)
   rule-four k r m (misses s v) g z =
       let x = same (r .named) s (g .2) in

@@ -1,11 +1,12 @@
 -- The reports of an event stand in the order of the rules, and no rule reports twice (`in-order`), on any link. The moments come in that order: up to each, the
--- rules used are among the first so many (`bound`), and a report that is made there has its rule's place above these (`rule-climbs`). One place is taken by two
--- moments: a report 2 is made by passing time or by closing. While something is open still, no rule has been used at all.
+-- rules used are among the first so many (`bound`), and a report that is made there has its rule's place above these (`rule-climbs`). One place is taken by several
+-- moments: a report 2 is made by passing time, by closing or as a byte comes, a report 1 by passing time, as a byte comes or by the byte. While something is open
+-- still, no rule has been used at all.
 -- Assumes nothing.
 use Prim.Native.Nat.{ℕ, _≤_, _<_}
 use mathlib.Core.Bool.{Bool, true, false, _&&_}
 use mathlib.Core.List.{List, [], _∷_, _++_, append-nil}
-use mathlib.Core.Path.{_≡_, refl, sym, subst}
+use mathlib.Core.Path.{_≡_, refl, sym, ap, subst}
 use native.Mathlib.Omega.{arith}
 use borrow.Author.Tests.{eqb-true, eqb-false, leb-true, ltb-true}
 use lib.Dec.{eqb, ltb, leb}
@@ -18,9 +19,9 @@ use Rattle.events.specs.declared.Event.{Event}
 use Rattle.phases.specs.Phases.{isOpen, down, talking, settled}
 use Rattle.phases.specs.declared.Phase.{Phase}
 use Rattle.moves.specs.declared.Move.{Move}
-use Rattle.moves.proofs.Rules.{Moment, at-silence, at-p2, at-p3, at-window, at-closing, at-leaving, at-start, at-byte, at-stop, at-end, next, drops}
-use Rattle.moves.proofs.Rules.{Closes, by-drop, by-address, by-wake-up, Rule, rests, breaks-off, waited, idled, expires, cuts-off, aborts, leaves}
-use Rattle.moves.proofs.Rules.{starts-slow, starts-fast, hurries, low, strays, misses, connects, goes-on, opens, errs, breaks, frames, grows, stops}
+use Rattle.moves.proofs.Rules.{Moment, at-silence, at-p2, at-p3, at-window, at-closing, at-leaving, at-start, at-cut, at-hearing, at-byte, at-stop, at-end, next, drops}
+use Rattle.moves.proofs.Rules.{Closes, by-drop, by-address, by-wake-up, Rule, rests, ends-right, breaks-off, waited, idled, expires, cuts-off, aborts, leaves}
+use Rattle.moves.proofs.Rules.{starts-slow, starts-fast, hurries, low, cut-right, cut-wrong, cut-held, strays, misses, connects, goes-on, opens, errs, breaks, frames, grows, stops}
 use Rattle.reports.specs.Reporting.{reportOf, moved}
 use Rattle.reports.specs.declared.Report.{Report}
 use Rattle.reports.specs.declared.Run.{Run}
@@ -32,6 +33,8 @@ use Rattle.demands.specs.Logs.{Log, numberAfter, takenOf}
 use Rattle.demands.specs.Histories.{after, reportsTo}
 use Rattle.demands.specs.Orders.{ruleOf, InOrder}
 use Rattle.demands.specs.Ours.{ours}
+use Rattle.phases.proofs.StateTests.{held-is}
+use Rattle.demands.proofs.Histories.Holding.{framed-quiet}
 use Rattle.demands.proofs.Connecting.Judging.{misjudged}
 use Rattle.demands.proofs.Histories.ReportsMade.{reports-made, none-refused}
 
@@ -77,7 +80,9 @@ bound at-window o = if o then 0 else 3
 bound at-closing o = if o then 0 else 4
 bound at-leaving o = 5
 bound at-start o = 6
-bound at-byte o = 8
+bound at-cut o = if o then 0 else 4
+bound at-hearing o = if o then 0 else 8
+bound at-byte o = if o then 0 else 8
 bound at-stop o = 9
 bound at-end o = 10
 
@@ -95,7 +100,12 @@ rest-climbs at-closing true = refl
 rest-climbs at-closing false = refl
 rest-climbs at-leaving o = refl
 rest-climbs at-start o = refl
-rest-climbs at-byte o = refl
+rest-climbs at-cut true = refl
+rest-climbs at-cut false = refl
+rest-climbs at-hearing true = refl
+rest-climbs at-hearing false = refl
+rest-climbs at-byte true = refl
+rest-climbs at-byte false = refl
 rest-climbs at-stop o = refl
 rest-climbs at-end o = refl
 
@@ -113,7 +123,8 @@ rule-climbs : (mark : Micros) (e : Event) (p : Phase) (k : Moment) (m : Move) �
     → Climbs (bound k (isOpen (p .state))) (bound (next k) (isOpen (m .phase .state))) m
 unfolding next ruleOf isOpen down settled talking
 rule-climbs mark e p k m (rests u) = rest-climbs k (isOpen (p .state))
-rule-climbs mark e p k m (breaks-off o s) = refl
+rule-climbs mark e p k m (ends-right h s r) = rw (ap isOpen (framed-quiet p)) refl
+rule-climbs mark e p k m (breaks-off o s r) = refl
 rule-climbs mark e p k m (waited q f t) = rw q
 rule-climbs mark e p k m (idled q f t) = rw q
 rule-climbs mark e p k m (expires s o) = rw s
@@ -125,15 +136,17 @@ rule-climbs mark e p k m (starts-slow a i) = refl
 rule-climbs mark e p k m (starts-fast w i l) = refl
 rule-climbs mark e p k m (hurries s i) = refl
 rule-climbs mark e p k m (low w i l) = refl
-rule-climbs mark e p k m (strays d) = refl
-rule-climbs mark e p k m (misses s v) = rw (misjudged (λ (j : ℕ). ruleOf failedReport j ≡ 9) refl refl refl _ _ _ _ v)
-rule-climbs mark e p k m (connects s v l) = refl
-rule-climbs mark e p k m (goes-on s v l) = refl
-rule-climbs mark e p k m (opens q r) = refl
-rule-climbs mark e p k m (errs q r) = refl
-rule-climbs mark e p k m (breaks h r) = refl
-rule-climbs mark e p k m (frames h r s) = refl
-rule-climbs mark e p k m (grows h r s) = refl
+rule-climbs mark e p k m (cut-right c r) = rw (held-is (cut-held mark e p c) .1, ap isOpen (framed-quiet p)) refl
+rule-climbs mark e p k m (cut-wrong c r) = rw (held-is (cut-held mark e p c) .1) refl
+rule-climbs mark e p k m (strays d) = rw d
+rule-climbs mark e p k m (misses s v) = rw (ap isOpen s, misjudged (λ (j : ℕ). ruleOf failedReport j ≡ 9) refl refl refl _ _ _ _ v)
+rule-climbs mark e p k m (connects s v l) = rw s
+rule-climbs mark e p k m (goes-on s v l) = rw s
+rule-climbs mark e p k m (opens q r) = rw q
+rule-climbs mark e p k m (errs q r) = rw q
+rule-climbs mark e p k m (breaks h r) = rw h
+rule-climbs mark e p k m (frames h r s) = rw h
+rule-climbs mark e p k m (grows h r s) = rw h
 rule-climbs mark e p k m (stops q r) = refl
 
 -- ---- all of an event
@@ -151,7 +164,7 @@ module _ (l : Link) (e : Event) where
   unfolding handledTells
   handled-order =
       let few : (r : Run) → bound at-closing (isOpen (r .phase .state)) ≤ 4 = λ r. closing-most (isOpen (r .phase .state)) in
-      up-order (event-walk (l .mark) e Ordered moves (λ r xs i. upper i (omega (arith, few r))) (λ r xs i. upper i (omega arith))
+      up-order (event-walk (l .mark) e Ordered moves (λ r xs i. i) (λ r xs i. i) (λ r xs i. upper i (omega arith))
       (λ r xs i. upper i (omega (arith, few r))) (begun l e) (none (omega arith)))
 
 -- IN ORDER

@@ -5,7 +5,7 @@ use Prim.Native.Nat.{ℕ}
 use mathlib.Core.Bool.{true}
 use mathlib.Core.List.{List, [], _∷_, _++_}
 use mathlib.Core.Path.{_≡_}
-use mathlib.Core.Logic.{_↔_}
+use mathlib.Core.Logic.{_↔_, _⊎_}
 use lib.ListN.{length}
 use Rattle.base.specs.Numbers.{taken}
 use Rattle.base.specs.Reports.{damageReport, early, stray}
@@ -14,10 +14,10 @@ use Rattle.events.specs.declared.Event.{Event}
 use Rattle.reports.specs.declared.Report.{Report}
 use Rattle.demands.specs.Logs.{Log, _▷_, heardIn, numberAfter, takenOf, Begins}
 use Rattle.demands.specs.Refusals.{Not}
-use Rattle.demands.specs.Editions.{endsItself}
+use Rattle.demands.specs.Editions.{isFrame, endsItself}
 use Rattle.demands.specs.Histories.{after}
 use Rattle.demands.specs.Sessions.{Talk, Session, gapBefore, Early, Stray}
-use Rattle.demands.specs.Messages.{InTime}
+use Rattle.demands.specs.Messages.{InTime, IsOver}
 use Rattle.demands.specs.Ours.{ours}
 
 -- a byte of the session t after it, and none but it is held then
@@ -46,10 +46,10 @@ pub data Speaking (t : Talk) (b : Event) : Log → List ℕ → Type 0 where
 pub record Finishes (es : Log) (e : Event) (bytes : List ℕ) : Type 0 where
   pub talk : Talk
   pub first : Event
-  pub message : Speaking talk first (es ▷ e) bytes
-  pub kind : e .kind ≡ Byte
   pub number : numberAfter (takenOf es) e ≡ taken
-  pub read : endsItself (talk .pair) bytes ≡ true
+  pub frame : isFrame (talk .pair) (first .side) bytes ≡ true
+  pub ends : (Speaking talk first (es ▷ e) bytes × (e .kind ≡ Byte) × (endsItself (talk .pair) bytes ≡ true))
+      ⊎ (Speaking talk first es bytes × IsOver talk first es e)
 
 -- and what its report says of the first byte
 pub record Turned (es : Log) (r : Report) : Type 0 where

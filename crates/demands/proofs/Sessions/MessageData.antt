@@ -3,7 +3,7 @@
 -- what bytes that go on with a message make of it, and whether the rest ends it in a frame.
 -- Assumes nothing.
 use mathlib.Core.Path.{_≡_, refl, sym, ap, _∙_, subst}
-use mathlib.Core.Bool.{Bool, true, false, _&&_, _||_, false≢true, true≢false}
+use mathlib.Core.Bool.{Bool, true, false, not, _&&_, _||_, false≢true, true≢false}
 use mathlib.Core.List.{List, [], _∷_, _++_, append-nil}
 use Prim.Native.Nat.{ℕ, zero, suc, _+_, _*_, _/_, _%_, _^_, _<_, _≤_}
 use native.Mathlib.Nat.{zero-add, lt-of-lt-of-le, pow-suc, pow-le-pow-right}
@@ -17,7 +17,7 @@ use Rattle.base.specs.Numbers.{taken}
 use Rattle.base.specs.Reports.{noReason}
 use Rattle.base.specs.Sums.{byteSum}
 use Rattle.base.proofs.Tests.{and-split}
-use Rattle.keys.specs.Keys.{goodPair, lengthInFormat, extraLength}
+use Rattle.keys.specs.Keys.{isGood, goodPair, lengthInFormat, extraLength}
 use Rattle.keys.specs.declared.Form.{Form}
 use Rattle.keys.specs.declared.Form.the-variants.{Plain, Physical, Functional, Foreign}
 use Rattle.keys.specs.declared.Pair.{Pair}
@@ -40,15 +40,11 @@ use Rattle.talk.specs.declared.Part.the-variants.{Target, Data}
 use Rattle.talk.specs.declared.Message.{Message}
 use Rattle.talk.specs.Messages.{endsIn, isMessage}
 use Rattle.talk.proofs.Frames.{message-reads}
-use Rattle.demands.specs.Editions.{isLinkPair, isFrame}
+use Rattle.demands.specs.Editions.{ofCar, isLinkPair, isFrame, endsItself}
+use Rattle.demands.specs.Beside.{grownBy}
 use Rattle.demands.specs.Sessions.{same, stops, resets, retimes, codesIn}
 
 -- ---- what is said
--- a message after more bytes
-unfoldable pub grownBy : Message → List ℕ → Message
-grownBy m [] = m
-grownBy m (v ∷ vs) = grownBy (grown m v) vs
-
 -- what a request asks for, by its data
 unfoldable pub requestBy : List ℕ → Request
 requestBy d =
@@ -87,7 +83,7 @@ pub ends-now : (side : Side) (m : Message) (v : ℕ) → laterReason m side v �
 ends-now side m v r s = rw (r, s)
 
 -- so the message is what the bytes make of it, and what the whole message does is what its rest does
-grown-append : (m : Message) (vs ws : List ℕ) → grownBy m (vs ++ ws) ≡ grownBy (grownBy m vs) ws
+pub grown-append : (m : Message) (vs ws : List ℕ) → grownBy m (vs ++ ws) ≡ grownBy (grownBy m vs) ws
 unfolding grownBy
 grown-append m [] ws = refl
 grown-append m (v ∷ vs) ws = grown-append (grown m v) vs ws
@@ -517,8 +513,26 @@ message-carries kb1 kb2 side f vs v good byte e =
     let d = dataOf kb1 kb2 s in
     told-carries _ d (form-told (formatForm f) (eqb (f % 64) 0) d vs v side (f % 64) f p) (p .sound .some)
 
--- and bytes are such a message exactly if they are a frame under these key bytes
-pub message-frame : (pair : Pair) (side : Side) (s : List ℕ) → isLinkPair pair ≡ true → ((i : ℕ) → getD s i 0 < 256)
-    → isMessage (pair .kb1) side s ≡ isFrame pair s
-unfolding isFrame
-message-frame pair side s good byte = message-reads (pair .kb1) (pair .kb2) side s good byte
+-- a link's pair that is no car's is good
+pub pair-good : (pair : Pair) → isLinkPair pair ≡ true → ofCar pair ≡ false → isGood pair ≡ true
+unfolding isLinkPair
+pair-good pair h n = by-car (isGood pair) (ofCar pair) h n
+  where
+    by-car : (a b : Bool) → (a || b) ≡ true → b ≡ false → a ≡ true
+    by-car true b h n = refl
+    by-car false b h n = absurd (false≢true (sym n ∙ h))
+
+-- and bytes are such a message exactly if they end themselves under these key bytes
+pub message-ends : (pair : Pair) (side : Side) (s : List ℕ) → isLinkPair pair ≡ true → ofCar pair ≡ false → ((i : ℕ) → getD s i 0 < 256)
+    → isMessage (pair .kb1) side s ≡ endsItself pair s
+unfolding endsItself
+message-ends pair side s good n byte = message-reads (pair .kb1) (pair .kb2) side s (pair-good pair good n) byte ∙ sym (rw n refl)
+
+-- what ends itself is a frame, of any side, and of no car
+pub ends-frame : (pair : Pair) (side : Side) (s : List ℕ) → endsItself pair s ≡ true → (isFrame pair side s ≡ true) × (ofCar pair ≡ false)
+unfolding endsItself isFrame
+ends-frame pair side s h = by-car (ofCar pair) (eqb (readOf (pair .kb1) (pair .kb2) s .no) taken) _ h
+  where
+    by-car : (c r x : Bool) → (not c && r) ≡ true → ((if c then x else r) ≡ true) × (c ≡ false)
+    by-car true r x h = absurd (false≢true h)
+    by-car false r x h = (h, refl)

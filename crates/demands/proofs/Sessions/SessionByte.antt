@@ -5,7 +5,7 @@ use Prim.Native.Nat.{ℕ, _+_, _-_, _≤_, _<_}
 use mathlib.Core.Bool.{Bool, true, false, not, _||_, false≢true}
 use mathlib.Core.List.{List, [], _∷_, _++_, append-nil, append-assoc}
 use mathlib.Core.Path.{_≡_, refl, sym, ap, ap₂, _∙_, subst}
-use mathlib.Core.Logic.{_↔_, ⊎-elim}
+use mathlib.Core.Logic.{_↔_, inl, ⊎-elim}
 use native.Mathlib.Omega.{arith}
 use borrow.Author.Tests.{eq-eqb, eqb-true, eqb-false}
 use lib.Dec.{eqb}
@@ -27,10 +27,11 @@ use Rattle.events.specs.declared.Kind.the-variants.{Byte}
 use Rattle.events.specs.declared.Side.{Side}
 use Rattle.events.specs.declared.Side.the-variants.{Tester, Unit, Nobody}
 use Rattle.events.specs.declared.Event.{Event}
-use Rattle.talk.specs.Talk.{headReason, firstReason, begun, partReason, laterReason, isSum, grown, withData, requestOf, isExactly}
+use Rattle.talk.specs.Cars.{carGrown, carBegun}
+use Rattle.talk.specs.Talk.{headReason, firstReason, begun, begunBy, partReason, laterReason, isSum, grown, withData, requestOf, isExactly}
 use Rattle.talk.specs.Talk.{asksCodes, ifAllowed, requestAfter, isStopped}
 use Rattle.talk.specs.declared.Part.{Part}
-use Rattle.talk.specs.declared.Part.the-variants.{Target, Source, Length, Data, Sum}
+use Rattle.talk.specs.declared.Part.the-variants.{Target, Source, Length, Data, Sum, Free}
 use Rattle.talk.specs.declared.Reply.the-variants.{First, Further}
 use Rattle.talk.specs.declared.Request.{Request}
 use Rattle.talk.specs.declared.Request.the-variants.{Ordinary, Stop, OwnTiming, NewTiming}
@@ -50,23 +51,24 @@ use Rattle.reports.specs.declared.Report.{Report}
 use Rattle.reports.specs.declared.Run.{Run}
 use Rattle.link.specs.Handling.{hearing}
 use Rattle.link.specs.Telling.{tells}
-use Rattle.demands.specs.Logs.{Log, _▷_, markOf, bytesOf, heardIn, numberAfter, takenOf, whole, more}
-use Rattle.demands.specs.Editions.{isFrame}
+use Rattle.demands.specs.Logs.{lastSide, Log, _▷_, markOf, bytesOf, heardIn, numberAfter, takenOf, whole, more}
+use Rattle.demands.specs.Editions.{ofCar, isFrame, endsItself}
 use Rattle.demands.specs.Histories.{after, isAmong, Among, first, later, Tells}
 use Rattle.demands.specs.Accounts.{namedBy, bytesNamed}
 use Rattle.demands.specs.Sessions.{Frame, Frames, _▸_, stops, resets, retimes, codesIn, pendingIn, windowsIn, Talk, afterReport}
-use Rattle.demands.specs.Sessions.{lastSide, frameNamed, talkAfter, Session, inForce, gapBefore, Stray, Early}
-use Rattle.demands.proofs.Sessions.MessageData.{Carries, Kept, begun as gone-none, on, gone-by, gone-ends, ends-now, kept-asked, message-carries, message-frame}
+use Rattle.demands.specs.Sessions.{frameNamed, replyTo, talkAfter, Session, inForce, gapBefore, Stray, Early}
+use Rattle.demands.proofs.Sessions.MessageData.{Carries, Kept, begun as gone-none, on, gone-by, gone-ends, ends-now, kept-asked, message-carries, GoneOn, pair-good, message-ends, ends-frame}
+use Rattle.demands.proofs.Sessions.CarMessages.{sum-no-car}
 use Rattle.demands.proofs.Sessions.MessageData.{reply-windows, reply-request, reply-stops}
 use Rattle.demands.specs.Messages.{InTime}
-use Rattle.demands.proofs.Histories.BytesAsEvents.{talkBehind, talkReason, same-length, byte-events, head-wrong, head-right, later-wrong, later-right}
+use Rattle.demands.proofs.Histories.BytesAsEvents.{talkBehind, valueReason, talkReason, same-length, byte-events, head-wrong, head-right, later-wrong, later-right}
 use Rattle.demands.proofs.Sessions.AfterFirstByte.{FirstOf, Speaking, begins, grows}
 use Rattle.demands.proofs.Histories.Tiling.{sum-is}
 use Rattle.demands.proofs.Histories.BytesHeard.{Bytes, byte-longer, begins-longer}
 use Rattle.demands.proofs.Moves.ReportsInList.{Each, each-none, each-one, each-both}
 use Rattle.demands.proofs.Damage.StrayOrEarly.{same-is, has-side, first-early, first-stray, first-else, first-head, later-elsewhere}
 use Rattle.demands.proofs.Moves.TimePasses.{off-second}
-use Rattle.demands.proofs.Sessions.SessionLasts.{Fits, Holds, reasonWith, Opened, At, Told, plain, turned}
+use Rattle.demands.proofs.Sessions.SessionLasts.{held-loss, Fits, Holds, reasonWith, Opened, At, Told, plain, turned}
 use Rattle.demands.proofs.Sessions.SessionEnds.{Ends, still-up, over}
 use Rattle.demands.specs.Ours.{ours}
 
@@ -75,7 +77,7 @@ pub within : (n : ℕ) (l : List ℕ) (x : ℕ) (xs : List ℕ) → drop n l ≡
 within n l x xs q = let z = ap length q in let y = length-drop n l in omega arith
 
 pub grown-side : (m : Message) (v : ℕ) → grown m v .side ≡ m .side
-unfolding grown withData
+unfolding grown withData carGrown
 grown-side m v = by-part (m .part) refl
   where
     by-part : (part : Part) → m .part ≡ part → grown m v .side ≡ m .side
@@ -84,6 +86,11 @@ grown-side m v = by-part (m .part) refl
     by-part Length q = rw q
     by-part Data q = rw q
     by-part Sum q = rw q
+    by-part Free q = rw q
+
+pub begun-side : (pair : Pair) (side : Side) (v : ℕ) → begunBy pair side v .side ≡ side
+unfolding begunBy begun carBegun carGrown
+begun-side pair side v = by-test (λ (m : Message). m .side ≡ side) (ofCar pair) {x = carBegun side v} {y = begun side v} (λ _. refl) (λ _. refl)
 
 later-side : (m : Message) (side : Side) (v : ℕ) → laterReason m side v ≡ noReason → side ≡ m .side
 unfolding laterReason
@@ -102,10 +109,6 @@ unit-side Nobody t n = absurd (false≢true (sym n))
 tester-unit : (side : Side) → isTester side ≡ true → side ≡ Unit → ⊥
 unfolding isTester
 tester-unit side t u = false≢true (sym (ap isTester u) ∙ t)
-
-held-loss : (p : Phase) (why : ℕ) → isHeld (p .state) ≡ true → lossReason p why ≡ why
-unfolding lossReason
-held-loss p why h = rw h
 
 request-not : (m : Message) → isStopped (requestOf m) ≡ false
 unfolding requestOf isStopped
@@ -211,8 +214,8 @@ module _ (es : Log) (e : Event) (all : List Report) (kind : e .kind ≡ Byte) (n
     opening : FirstOf t es e
     opening = record { session = s; kind = kind; number = number; alone = last ∙ sym named-is }
 
-    first-held : reason ≡ noReason → At (es ▷ e) t (holding p (begun (e .side) (e .value))) named (countSum heard 1)
-    unfolding holding talking isConnected isQuiet lossReason isHeld begun reasonAtFirst
+    first-held : reason ≡ noReason → At (es ▷ e) t (holding p (begunBy (p .start .pair) (e .side) (e .value))) named (countSum heard 1)
+    unfolding holding talking isConnected isQuiet lossReason isHeld reasonAtFirst lastSide
     first-held z =
         let f = a .fits in
         record {
@@ -230,7 +233,8 @@ module _ (es : Log) (e : Event) (all : List Report) (kind : e .kind ≡ Byte) (n
             fresh = λ _ _. refl;
             reasoned = λ _ _ bs.
                 ap (talkReason (t .pair)) (first-event bs) ∙ head-right (t .pair) e bs (first-head (t .pair) (t .reply) (inForce t) (e .side) (e .value)
-                (gapBefore (takenOf es) e) (sym reason-by ∙ z));
+                (gapBefore (takenOf es) e) (sym reason-by ∙ z))
+                ∙ ap (λ (k : Pair). talkBehind (begunBy k (e .side) (e .value)) bs) (sym (a .fits .pair));
             against = λ h. absurd (false≢true (sym h));
             held = λ _. record {
               head = e .value;
@@ -238,7 +242,8 @@ module _ (es : Log) (e : Event) (all : List Report) (kind : e .kind ≡ Byte) (n
               bytes = ap (drop named) one-more ∙ drop-at (heardIn es) (e .value ∷ []) named named-is;
               right = first-head (p .start .pair) (p .reply) (p .windows) (e .side) (e .value) (gapOf mark (e .start)) z;
               gone = gone-none;
-              whose = refl;
+              whose = begun-side (p .start .pair) (e .side) (e .value);
+              last = ap lastSide (sym (append-nil (drop named (bytesOf (takenOf (es ▷ e))))) ∙ first-event []);
               spoken = begins (record {
                 first = opening;
                 timely = λ q. let k = reason-early noReason (sym z) .1 q in omega arith;
@@ -363,8 +368,18 @@ module _ (es : Log) (e : Event) (all : List Report) (kind : e .kind ≡ Byte) (n
         ∙ drop-append-le (r .named) (heardIn es) (e .value ∷ []) (within (r .named) (heardIn es) (held .head) (held .rest) (held .bytes))
         ∙ ap (λ (l : List ℕ). l ++ (e .value ∷ [])) (held .bytes)
 
-    right-head : eqb (headReason (t .pair .kb1) (held .head)) noReason ≡ true
-    right-head = eq-eqb (headReason (t .pair .kb1) (held .head)) noReason (sym (ap (λ (k : Pair). headReason (k .kb1) (held .head)) (a .fits .pair)) ∙ held .right)
+    -- on a 14230 link its head is right, and it went on as such
+    right-head : ofCar (t .pair) ≡ false → eqb (headReason (t .pair .kb1) (held .head)) noReason ≡ true
+    unfolding valueReason
+    right-head n =
+        eq-eqb (headReason (t .pair .kb1) (held .head)) noReason
+        (sym (rw n refl) ∙ (sym (ap (λ (k : Pair). valueReason k (held .head)) (a .fits .pair)) ∙ held .right))
+
+    gone-frame : ofCar (t .pair) ≡ false → GoneOn (o .byte .side) (begun (o .byte .side) (held .head)) (held .rest) (r .phase .message)
+    unfolding begunBy
+    gone-frame n =
+        subst (λ (m : Message). GoneOn (o .byte .side) m (held .rest) (r .phase .message))
+        (ap (λ (k : Pair). begunBy k (o .byte .side) (held .head)) (a .fits .pair) ∙ rw n refl) (held .gone)
 
     side-is : wrong ≡ noReason → e .side ≡ o .byte .side
     side-is w = later-side (r .phase .message) (e .side) (e .value) w ∙ held .whose
@@ -376,13 +391,14 @@ module _ (es : Log) (e : Event) (all : List Report) (kind : e .kind ≡ Byte) (n
     front-byte : Bytes (held .head ∷ held .rest)
     front-byte i = subst (λ (l : List ℕ). getD l i 0 < 256) (held .bytes) (rw (getD-drop (r .named) (heardIn es) i 0) (before-byte (r .named + i)))
 
-    not-yet : isFrame (t .pair) (held .head ∷ held .rest) ≡ true → ⊥
+    not-yet : endsItself (t .pair) (held .head ∷ held .rest) ≡ true → ⊥
     not-yet q =
         let side = o .byte .side in
-        let m = message-frame (t .pair) side (held .head ∷ held .rest) (a .fits .good) front-byte ∙ q in
+        let n = ends-frame (t .pair) side (held .head ∷ held .rest) q .1 in
+        let m = message-ends (t .pair) side (held .head ∷ held .rest) (a .fits .good) n front-byte ∙ q in
         let k = ap (endsIn side (begun side (held .head))) (sym (append-nil (held .rest)))
-        ∙ gone-ends side (begun side (held .head)) (r .phase .message) (held .rest) [] (held .gone) in
-        false≢true (sym (rw (right-head) k) ∙ m)
+        ∙ gone-ends side (begun side (held .head)) (r .phase .message) (held .rest) [] (gone-frame n) in
+        false≢true (sym (rw (right-head n) k) ∙ m)
 
     speaks-on : wrong ≡ noReason → Speaking t (o .byte) (es ▷ e) slice
     speaks-on w = grows (held .spoken) not-yet number kind (side-is w) near
@@ -406,12 +422,18 @@ module _ (es : Log) (e : Event) (all : List Report) (kind : e .kind ≡ Byte) (n
                 right = held .right;
                 gone = on (e .value) (held .gone) (right-is w) n;
                 whose = grown-side (r .phase .message) (e .value) ∙ held .whose;
+                last = ap lastSide (one-event t (r .phase) (r .named) o) ∙ side-last (drop (r .named) (bytesOf (takenOf es))) e ∙ side-is w;
                 spoken = speaks-on w;
               });
         }
 
     -- ---- the last byte of a message: a frame
     module _ (w : wrong ≡ noReason) (last : isSum (r .phase .message .part) ≡ true) where
+      no-car : ofCar (t .pair) ≡ false
+      no-car =
+          sym (ap ofCar (a .fits .pair))
+          ∙ sum-no-car (r .phase .start .pair) (o .byte .side) (o .byte .side) (held .head) (held .rest) (r .phase .message) (held .gone) last
+
       abbrev x : Report
       x = reportOf (hearing r) frameReport noReason
 
@@ -451,19 +473,23 @@ module _ (es : Log) (e : Event) (all : List Report) (kind : e .kind ≡ Byte) (n
       -- they are a message that ends here, so `read` takes them
       message : isMessage (t .pair .kb1) (o .byte .side) slice ≡ true
       message =
-          rw right-head
-          (gone-ends (o .byte .side) (begun (o .byte .side) (held .head)) (r .phase .message) (held .rest) (e .value ∷ []) (held .gone)
+          rw (right-head no-car)
+          (gone-ends (o .byte .side) (begun (o .byte .side) (held .head)) (r .phase .message) (held .rest) (e .value ∷ []) (gone-frame no-car)
           ∙ ends-now (o .byte .side) (r .phase .message) (e .value) (right-is w) last)
 
-      reads : isFrame (t .pair) framedBytes ≡ true
-      reads =
-          ap (isFrame (t .pair)) names ∙ sym (message-frame (t .pair) (o .byte .side) slice (a .fits .good) slice-byte) ∙ message
+      ends-here : endsItself (t .pair) framedBytes ≡ true
+      ends-here =
+          ap (endsItself (t .pair)) names ∙ sym (message-ends (t .pair) (o .byte .side) slice (a .fits .good) no-car slice-byte) ∙ message
+
+      reads : (side : Side) → isFrame (t .pair) side framedBytes ≡ true
+      reads side = ends-frame (t .pair) side framedBytes ends-here .0
 
       carries : Carries (r .phase .message) (dataOf (t .pair .kb1) (t .pair .kb2) framedBytes)
       carries =
-          let c = message-carries (t .pair .kb1) (t .pair .kb2) (o .byte .side) (held .head) (held .rest) (e .value) (a .fits .good) slice-byte message in
+          let c = message-carries (t .pair .kb1) (t .pair .kb2) (o .byte .side) (held .head) (held .rest) (e .value)
+          (pair-good (t .pair) (a .fits .good) no-car) slice-byte message in
           let d = subst (λ (m : Message). Carries m (dataOf (t .pair .kb1) (t .pair .kb2) slice))
-          (sym (gone-by (o .byte .side) (begun (o .byte .side) (held .head)) (r .phase .message) (held .rest) (held .gone))) c in
+          (sym (gone-by (o .byte .side) (begun (o .byte .side) (held .head)) (r .phase .message) (held .rest) (gone-frame no-car))) c in
           subst (λ (l : List ℕ). Carries (r .phase .message) (dataOf (t .pair .kb1) (t .pair .kb2) l)) (sym names) d
 
       -- the talk with this frame
@@ -471,11 +497,11 @@ module _ (es : Log) (e : Event) (all : List Report) (kind : e .kind ≡ Byte) (n
       withFrame = record {
         pair = t .pair;
         frames = t .frames ▸ fr;
-        reply = if isTester (fr .side) then First else Further;
+        reply = replyTo (fr .side);
       }
 
       asked-fits : isTester (fr .side) ≡ true → Fits withFrame (asked (r .phase))
-      unfolding asked timed talking isConnected
+      unfolding asked timed talking isConnected replyTo
       asked-fits c =
           let f = a .fits in
           let d = dataOf (t .pair .kb1) (t .pair .kb2) framedBytes in
@@ -490,7 +516,7 @@ module _ (es : Log) (e : Event) (all : List Report) (kind : e .kind ≡ Byte) (n
           }
 
       answered-fits : isTester (fr .side) ≡ false → stops latest (dataOf (t .pair .kb1) (t .pair .kb2) framedBytes) ≡ false → Fits withFrame (answered (r .phase))
-      unfolding answered timed talking isConnected
+      unfolding answered timed talking isConnected replyTo
       answered-fits c z =
           let f = a .fits in
           let p = r .phase in
@@ -517,14 +543,13 @@ module _ (es : Log) (e : Event) (all : List Report) (kind : e .kind ≡ Byte) (n
           let never : (k : ℕ) → (noReason ≡ k → ⊥) → lossReason (r .phase) noReason ≡ k → ⊥
           = λ k n q. n (sym (held-loss (r .phase) noReason h) ∙ q) in
           record {
-            reads = λ _. reads;
+            reads = λ _. reads (fr .side);
             spoken = λ _. record {
               talk = t;
               first = o .byte;
-              message = subst (Speaking t (o .byte) (es ▷ e)) (sym names) (speaks-on w);
-              kind = kind;
               number = number;
-              read = reads;
+              frame = reads (o .byte .side);
+              ends = inl (subst (Speaking t (o .byte) (es ▷ e)) (sym names) (speaks-on w), kind, ends-here);
             };
             turns = λ _. turned es e all t (r .phase) (r .named) x o refl
                 (λ q. absurd (let z = q .0 in omega arith), λ q. absurd (never early (λ z. omega arith) q))

@@ -24,7 +24,7 @@ use Rattle.demands.specs.Logs.{Log, _▷_, heardIn}
 use Rattle.demands.specs.Histories.{after, isAmong}
 use Rattle.demands.specs.Sessions.{Talk, Session}
 use Rattle.demands.proofs.Moves.ReportsInList.{Each, each-both, tells-each}
-use Rattle.demands.proofs.Sessions.SessionLasts.{At, SpeaksOn, at-more, withReply, Told, talked, plain, Passes, up, gone, says-first, says-second, says-none, talked-both}
+use Rattle.demands.proofs.Sessions.SessionLasts.{At, SpeaksOn, at-more, Told, told-alike, talked, plain, Passes, up, gone, says-first, says-second, says-none, talked-both}
 use Rattle.demands.specs.Ours.{ours}
 
 module _ (es : Log) (e : Event) (all : List Report) where
@@ -38,14 +38,14 @@ module _ (es : Log) (e : Event) (all : List Report) where
   pub behind : (t : Talk) (rs ss : List Report) (r s : Run) → Passes es e all t rs r
       → ((u : Talk) → At es u (r .phase) (r .named) (r .heard) → Ends u ss s)
       → (r .phase .state ≡ Down → Each (Told es e all t) ss × (isConnected (s .phase .state) ≡ false)) → Ends t (rs ++ ss) s
-  behind t rs ss r s (up reply n f q a) g d = on (g (withReply t reply) a)
+  behind t rs ss r s (up v l n f q a) g d = on (g v a)
     where
-      on : Ends (withReply t reply) ss s → Ends t (rs ++ ss) s
+      on : Ends v ss s → Ends t (rs ++ ss) s
       on (still-up k h b) =
-          let p = talked-both es e all t reply rs ss q in
-          still-up (says-none es e all rs ss n k) (each-both (Told es e all t) rs ss f h)
+          let p = talked-both es e all t v rs ss q in
+          still-up (says-none es e all rs ss n k) (each-both (Told es e all t) rs ss f (told-alike es e all l ss h))
           (λ v n. subst (λ (u : Talk). At (es ▷ e) u (s .phase) (s .named) (s .heard)) (sym p) (b (subst (Session ours (es ▷ e)) p v) n))
-      on (over k h c) = over (says-second es e all rs ss k) (each-both (Told es e all t) rs ss f h) c
+      on (over k h c) = over (says-second es e all rs ss k) (each-both (Told es e all t) rs ss f (told-alike es e all l ss h)) c
   behind t rs ss r s (gone n f q) g d =
       let x = d q in
       over (says-first es e all rs ss n) (each-both (Told es e all t) rs ss f (x .0)) (x .1)
@@ -53,9 +53,9 @@ module _ (es : Log) (e : Event) (all : List Report) where
   -- ---- A TICK
   pub tick-ends : (t : Talk) (rs : List Report) (r : Run) → heardIn (es ▷ e) ≡ heardIn es
       → (isOpen (r .phase .state) ≡ true → (u : Talk) → SpeaksOn es e u) → Passes es e all t rs r → Ends t rs r
-  tick-ends t rs r q f (up reply n g x a) =
+  tick-ends t rs r q f (up v l n g x a) =
       still-up n g (λ _ _. subst (λ (u : Talk). At (es ▷ e) u (r .phase) (r .named) (r .heard)) (sym x)
-      (at-more es e (withReply t reply) (r .phase) (r .named) q (r .heard) (λ o. f o (withReply t reply)) a))
+      (at-more es e v (r .phase) (r .named) q (r .heard) (λ o. f o v) a))
   tick-ends t rs r q f (gone n g x) = over n g (down-unconnected x)
 
   -- ---- A, W AND D: with nothing open, what is connected is left ..
@@ -72,7 +72,7 @@ module _ (es : Log) (e : Event) (all : List Report) where
 
   pub leaves-gone : (mark : Micros) (t : Talk) (rs : List Report) (r : Run) (m : Move) → Rule mark e (r .phase) at-leaving m → isOpen (r .phase .state) ≡ false
       → Passes es e all t (rs ++ tells r m) (moved r m) → Gone t (rs ++ tells r m) (moved r m)
-  leaves-gone mark t rs r m u o (up reply n f q a) =
+  leaves-gone mark t rs r m u o (up v l n f q a) =
       absurd (left-off mark (r .phase) m u o (sym (ap (λ (p : Phase). isConnected (p .state)) (moved-phase r m)) ∙ a .fits .connected))
   leaves-gone mark t rs r m u o (gone n f q) = record { said = n; each = f; off = down-unconnected q }
 

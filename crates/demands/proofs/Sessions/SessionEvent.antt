@@ -22,9 +22,9 @@ use Rattle.talk.specs.declared.Request.{Request}
 use Rattle.phases.specs.declared.Phase.{Phase}
 use Rattle.moves.specs.Moves.{isSilent}
 use Rattle.moves.specs.declared.Move.{Move}
-use Rattle.moves.proofs.Rules.{Moment, at-silence, at-p2, at-p3, at-window, at-closing, at-leaving, at-start, at-byte, at-stop, at-end}
+use Rattle.moves.proofs.Rules.{Moment, at-silence, at-p2, at-p3, at-window, at-closing, at-leaving, at-start, at-cut, at-hearing, at-byte, at-stop, at-end}
 use Rattle.moves.proofs.Rules.{next as nextOf}
-use Rattle.moves.proofs.Rules.{Rule, rests, cuts-off, aborts}
+use Rattle.moves.proofs.Rules.{Rule, rests, cuts-off, aborts, cut-right, cut-wrong}
 use Rattle.reports.specs.Reporting.{noReports, listed, moved}
 use Rattle.reports.specs.declared.Report.{Report}
 use Rattle.reports.specs.declared.Run.{Run}
@@ -34,7 +34,7 @@ use Rattle.link.specs.declared.Link.{Link}
 use Rattle.link.specs.declared.Answer.{Answer}
 use Rattle.link.specs.Telling.{tells, passedTells, handledTells}
 use Rattle.link.proofs.Walk.{moved-phase, Reached, Here, act-walk-by}
-use Rattle.link.proofs.Three.{three-enough}
+use Rattle.link.proofs.Four.{four-enough}
 use Rattle.link.proofs.Long.{passed-recent}
 use Rattle.demands.specs.Logs.{Log, _▷_, heardIn, numberAfter, takenOf, InBytes}
 use Rattle.demands.specs.Histories.{after, reportsTo, Says, isAmong, Among}
@@ -51,10 +51,11 @@ use Rattle.demands.proofs.Sessions.AfterFirstByte.{refused, waits}
 use Rattle.demands.proofs.Histories.BytesHeard.{heard-bytes, byte-more, other-more, refused-more}
 use Rattle.demands.proofs.Moves.StillOpen.{not-silent}
 use Rattle.demands.proofs.Damage.StrayOrEarly.{not-other}
-use Rattle.demands.proofs.Sessions.SessionLasts.{At, SpeaksOn, at-more, Told, talked, Passes, closing-rule, leaving-rule, next, passed-step}
+use Rattle.demands.proofs.Sessions.SessionLasts.{At, SpeaksOn, at-more, Told, talked, Passes, cut-rule, closing-rule, leaving-rule, next, passed-step}
 use Rattle.demands.proofs.Sessions.SessionEnds.{Ends, still-up, over, behind, tick-ends, Gone, leaves-gone, start-ends}
 use Rattle.demands.proofs.Sessions.SessionByte.{byte-ends, byte-outside}
 use Rattle.demands.specs.Ours.{ours, ourAnswer}
+use Rattle.demands.proofs.Histories.Holding.{framed-quiet}
 
 -- ---- an event that is taken
 -- while a message is open, a tick in time goes on with it
@@ -88,6 +89,8 @@ module _ (es : Log) (e : Event) (t : Talk) (b : InBytes (es ▷ e)) (number : nu
     I at-closing r xs = Passes es e all t xs r × (isOpen (r .phase .state) ≡ true → InTime (takenOf es) e)
     I at-leaving r xs = Passes es e all t xs r × (isOpen (r .phase .state) ≡ false)
     I at-start r xs = Gone es e all t xs r
+    I at-cut r xs = Passes es e all t xs r × (isOpen (r .phase .state) ≡ true → InTime (takenOf es) e)
+    I at-hearing r xs = Passes es e all t xs r × (isOpen (r .phase .state) ≡ true → InTime (takenOf es) e)
     I at-byte r xs = Hears xs r
     I at-stop r xs = (m : Move) → Rule (here .mark) e (r .phase) at-stop m → Done (moved r m) (xs ++ tells r m)
     I at-end r xs = Done r xs
@@ -97,6 +100,13 @@ module _ (es : Log) (e : Event) (t : Talk) (b : InBytes (es ▷ e)) (number : nu
     closes p m (rests u) = u .0
     closes p m (cuts-off o) = refl
     closes p m (aborts s) = refl
+
+    -- what is open after a byte has come was so before
+    cut-open : (p : Phase) (m : Move) → Rule (here .mark) e p at-cut m → isOpen (m .phase .state) ≡ true → isOpen (p .state) ≡ true
+    unfolding settled talking isOpen
+    cut-open p m (rests u) o = o
+    cut-open p m (cut-right c r) o = absurd (false≢true (sym (ap isOpen (framed-quiet p)) ∙ o))
+    cut-open p m (cut-wrong c r) o = absurd (false≢true o)
 
     hears-byte : e .kind ≡ Byte → (r : Run) (xs : List Report) (m : Move) → Rule (here .mark) e (r .phase) at-byte m → Hears xs r
         → I at-stop (moved r m) (xs ++ tells r m)
@@ -122,12 +132,17 @@ module _ (es : Log) (e : Event) (t : Talk) (b : InBytes (es ▷ e)) (number : nu
     moves at-p3 w r h xs m u i = absurd i
     moves at-window w r h xs m u i = absurd i
     moves at-closing w r h xs m u i = (
-      next es e all (here .mark) at-closing (closing-rule es e all (here .mark)) tt t xs r m u (i .0),
+      next es e all (here .mark) at-closing (closing-rule es e all (here .mark)) refl t xs r m u (i .0),
       ap (λ (p : Phase). isOpen (p .state)) (moved-phase r m) ∙ closes (r .phase) m u,
     )
     moves at-leaving w r h xs m u i =
-        leaves-gone es e all (here .mark) t xs r m u (i .1) (next es e all (here .mark) at-leaving (leaving-rule es e all (here .mark)) tt t xs r m u (i .0))
+        leaves-gone es e all (here .mark) t xs r m u (i .1) (next es e all (here .mark) at-leaving (leaving-rule es e all (here .mark)) refl t xs r m u (i .0))
     moves at-start w r h xs m u i = λ _. start-ends es e all (here .mark) t xs r m u i
+    moves at-cut w r h xs m u i = (
+      next es e all (here .mark) at-cut (cut-rule es e all (here .mark) number w) refl t xs r m u (i .0),
+      λ o. i .1 (cut-open (r .phase) m u (sym (ap (λ (p : Phase). isOpen (p .state)) (moved-phase r m)) ∙ o)),
+    )
+    moves at-hearing w r h xs m (rests u) i = absurd u
     moves at-byte w r h xs m u i = hears-byte w r xs m u i
     moves at-stop w r h xs m u i = i m u
     moves at-end w r h xs m (rests u) i = absurd u
@@ -142,9 +157,9 @@ module _ (es : Log) (e : Event) (t : Talk) (b : InBytes (es ▷ e)) (number : nu
   handled-ends a =
       let all = handledTells here e in
       let r = begun here e in
-      act-walk-by (here .mark) e r (I all) (moves all) (λ _ s xs i. heard s (i .0) (i .1)) (λ _ s xs g _. over (g .said) (g .each) (g .off)) (tick-done all)
+      act-walk-by (here .mark) e r (I all) (moves all) (λ _ s xs i. i) (λ _ s xs i. heard s (i .0) (i .1)) (λ _ s xs g _. over (g .said) (g .each) (g .off)) (tick-done all)
       (passedTells r (here .mark) (e .start))
-      (passed-step es e all t r (here .mark) a, λ o. in-time (passed-recent (here .mark) (e .start) r o)) (λ x i. i)
+      (passed-step es e all t r (here .mark) number (basics es .mark) a, λ o. in-time (passed-recent (here .mark) (e .start) r o)) (λ x i. i)
 
 -- ---- any event, as the step answers it
 -- a link as a run that has made no report
@@ -170,7 +185,7 @@ taken-ends es e t b n a =
     let l = after ours es .link in
     let x = same-run es e (handledTells l e) t (handledTells l e) (handled l e) (linkAfter l e (handled l e)) refl refl refl
     (handled-ends es e t b n a) in
-    subst (λ (rs : List Report). Ends es e rs t rs (runAt (linkAfter l e (handled l e)))) (sym (three-enough l e)) x
+    subst (λ (rs : List Report). Ends es e rs t rs (runAt (linkAfter l e (handled l e)))) (sym (four-enough l e)) x
 
 refused-ends : (es : Log) (e : Event) (t : Talk) (k : ℕ) → eqb (numberAfter (takenOf es) e) taken ≡ false → AtLink es t
     → Answered es e t (refusedBy (after ours es .link) k)

@@ -17,7 +17,9 @@ use Rattle.base.proofs.Tests.{and-split}
 use Rattle.base.specs.Reports.{frameReport, connectedReport, failedReport, outsideReport, notIdleReport, windowOver}
 use Rattle.units.specs.Units.{micros}
 use Rattle.keys.specs.Keys.{goodPair, lengthInFormat, extraLength, noAddresses, withAddresses, isExtended, takesForm}
-use Rattle.timing.specs.Timing.{setOf, minOf, p3MaxOf, p2Half, p2MaxOf, windowsBy, isBelow, isAllowed, decodedOf, sameWindows, isPassed, isUnlimited}
+use Rattle.keys.specs.Editions.{editionOf, isCar, isQuick, isSlowPair}
+use Rattle.talk.specs.Cars.{isHeadByte, countedUp, isCarSize, carReason, carGrown, carBegun}
+use Rattle.timing.specs.Timing.{namedSet, setOf, minOf, p3MaxOf, p2Half, p2MaxOf, windowsBy, isBelow, isAllowed, decodedOf, sameWindows, isPassed, isUnlimited}
 use Rattle.frame.specs.Layout.{formatForm, addressCount, extraCount, headSize, total, checksumOf, isNowhere, carried}
 use Rattle.frame.specs.Read.{placeRead, lengthRead, laidOf, readOf, dataOf}
 use Rattle.frame.specs.Read.{judged as judgedFrame}
@@ -28,21 +30,21 @@ use Rattle.events.specs.declared.Side.the-variants.{Tester, Unit, Nobody}
 use Rattle.events.specs.declared.Event.{Event}
 use Rattle.starts.specs.Starts.{dueAt, originOf, isReplyFormat, fits, isFrom, isEarly}
 use Rattle.starts.specs.Starts.{judged, isOver, afterFormat, onward, isLast, slowStart, fastStart, noStart, complement}
-use Rattle.talk.specs.Talk.{isFirst, testerTurn, isStray, isHasty, unitTurn, turnReason, hasExtra, placeAnnounced, headReason, firstReason}
+use Rattle.talk.specs.Talk.{isFirst, testerTurn, isStray, isHasty, unitTurn, turnReason, hasExtra, placeAnnounced, headReason, firstReason, endReason, isFree}
 use Rattle.talk.specs.Talk.{afterAddresses, partAfterFormat, begun as begunMessage, laterReason, isSum, withSeven, afterData, withData, grown, isExactly}
-use Rattle.talk.specs.Talk.{asksCodes, requestOf, isEffective, codesIn, ifAllowed, windowsFor, windowsAfter, spent, requestAfter, isStopped}
+use Rattle.talk.specs.Talk.{asksCodes, requestOf, isEffective, codesIn, ifAllowed, windowsFor, windowsAfter, spent, requestAfter, isStopped, frameReason}
 use Rattle.phases.specs.Phases.{isDown, isStarting, isQuiet, isHeld, isOpen, down, starting, connected, talking, holding, damaged, settled, timed, asked, answered, framed}
 use Rattle.moves.specs.Moves.{isSilent, lossReason, afterSilence, afterP2, afterP3, sinceOrigin, afterWindow, closing, leaving, isIdle, startingSlow, isGoodLow}
-use Rattle.moves.specs.Moves.{startingFast, startByte, reasonAtFirst, firstByte, laterByte, afterByte, afterStop}
+use Rattle.moves.specs.Moves.{startingFast, startByte, reasonAtFirst, firstByte, laterByte, afterByte, afterStop, isCutIn, beforeByte, isRight, ended}
 use Rattle.reports.specs.Reporting.{namesBytes, reportOf, appended, listed, told, moved}
 use Rattle.reports.specs.Counting.{zeroCounts, isFull, countedOne, countedAll, countedByte, countedEvent}
 use Rattle.reports.specs.declared.Report.{Report}
 use Rattle.reports.specs.declared.Counts.{Counts}
 use Rattle.link.specs.Handling.{freshLink, passed, shut, byteHeard, acted, begun, handled, markAfter, linkAfter}
 use Rattle.link.specs.Stepping.{numberOf, refusedBy, takenBy, answerOf, countsAfter, stepOf}
-use Rattle.demands.specs.Logs.{Log, none, _▷_, markOf, heardOf, bytesOf, countOf, clockOf, numberAfter, takenOf, heardIn}
+use Rattle.demands.specs.Logs.{lastSide, Log, none, _▷_, markOf, heardOf, bytesOf, countOf, clockOf, numberAfter, takenOf, heardIn}
 use Rattle.demands.specs.Histories.{Machine, after, answerWith, reportsTo, reportsOf, folded, isAmong, Among, first, later}
-use Rattle.demands.specs.Sessions.{same, stops, resets, retimes, pendingIn, windowsIn, firstKeyAt, firstKey, secondKey, lastSide, afterReport}
+use Rattle.demands.specs.Sessions.{same, stops, resets, retimes, pendingIn, windowsIn, firstKeyAt, firstKey, secondKey, replyTo, afterReport}
 use Rattle.demands.specs.Sessions.{codesIn as codesOf}
 use Rattle.demands.specs.Idle.{latestAfter, latestTalk, p3minIn, idleAfter, isDrop, idleIn, askedAfter, idleAsked, idleUntil}
 use Rattle.demands.specs.Accounts.{namedBy, bytesNamed, InTurn, reportsIn, countsOf, namedIn, heldIn, Accounted}
@@ -52,6 +54,7 @@ use Rattle.demands.specs.Wrong.{unchanged, idling, inventing, behind, tw
 use Rattle.demands.specs.Wrong.{outside, patient, unaware, waiting, forgiving, unmoved, strict, hasty}
 use Rattle.demands.specs.OurLink.{ourLink}
 use Rattle.demands.specs.DemandTwo.{DemandTwo}
+use Rattle.talk.specs.Talk.{begunBy}
 
 -- ---- some events
 -- a tick, and two bytes that a fresh link hears
@@ -283,7 +286,8 @@ unfolding
     windowsBy minOf p2MaxOf p2Half p3MaxOf isBelow spent requestAfter sameWindows lossReason slowStart complement ruleOf heldIn namedIn
     folded markOf bytesOf latestAfter latestTalk p3minIn idleAfter isDrop idleIn askedAfter idleAsked afterReport namedBy bytesNamed lastSide firstKeyAt firstKey
     secondKey windowsIn pendingIn same stops resets retimes codesOf dataOf readOf judgedFrame laidOf lengthRead placeRead headSize extraCount addressCount total checksumOf isNowhere
-    carried allBytes
+    carried allBytes isCutIn beforeByte isRight ended endReason isFree frameReason begunBy editionOf isCar isQuick isSlowPair namedSet replyTo carBegun carGrown carReason
+    isHeadByte countedUp isCarSize
 computed = record {
   of-unchanged = refl;
   of-idling = refl;

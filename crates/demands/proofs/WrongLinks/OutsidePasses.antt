@@ -156,7 +156,7 @@ outside-accounted es =
       indexes = tiled-turns (a .kept .tiled);
       counts = a .kept .counts;
       held = held-none es ∙ sym (held-nothing es);
-      three = λ e. listed-few (outsideStep l (after outside es .counts) e .answer .reports);
+      four = λ e. listed-few (outsideStep l (after outside es .counts) e .answer .reports);
     }
 
 -- NO BYTE IS MISSING FROM THE COUNTS

@@ -1,7 +1,6 @@
 -- `talk::first_reason` meets its contract: at each return, the tests and matches on the way there pick the case of the definition.
 -- Assumes nothing.
 use borrow.Author.Needs.{needs}
-use borrow.Author.Tests.{eq-eqb, ne-eqb}
 use Rattle.talk.specs.Talk.{firstReason}
 use Rattle.talk.proofs.first_reason.Statement.{statement}
 use Rattle.talk.proofs.first_reason.Tie as tie
@@ -13,5 +12,6 @@ first-reason-spec =
     (tie.spec
     (λ c κs. search needs)
     (λ c κs. search needs)
-    (λ c. rw (c .head-reason .ensures, ← (c .before .before .turn-reason .ensures), eq-eqb _ _ (c .before .if1 .taken)))
-    (λ c. rw (← (c .before .turn-reason .ensures), ne-eqb _ _ (c .if1 .left))))
+    (λ c. rw (c .turn-reason .ensures, ← (c .before .before .is-car .ensures), c .before .if1 .taken))
+    (λ c κs. search needs)
+    (λ c. rw (c .frame-reason .ensures, ← (c .before .before .is-car .ensures), c .before .if1 .left)))

@@ -11,7 +11,12 @@ set-of-spec =
     tie.close
     (tie.spec
     (λ c κs. search needs)
+    (λ c. search needs)
     (λ c κs. search needs)
-    (λ c. rw (c .extended-set .ensures, ← (c .before .before .is-extended .ensures), c .before .if1 .taken))
+    (λ c. search needs)
     (λ c κs. search needs)
-    (λ c. rw (c .normal-set .ensures, ← (c .before .before .is-extended .ensures), c .before .if1 .left)))
+    (λ c. search needs)
+    (λ c κs. search needs)
+    (λ c. rw (c .named-set .ensures, ← (c .before .before .before .edition-of .ensures), c .before .enum-told .given .1))
+    (λ c. rw (c .normal-set .ensures, ← (c .before .before .before .edition-of .ensures), c .before .enum-told2 .given .1))
+    (λ c. rw (c .quick-set .ensures, ← (c .before .before .before .edition-of .ensures), c .before .enum-told3 .given .1)))

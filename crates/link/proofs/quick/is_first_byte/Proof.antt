@@ -15,4 +15,5 @@ is-first-byte-spec =
     (λ c κs. search needs)
     (λ c κs. search needs)
     (λ c κs. search needs)
-    (λ c. rw (c .is-quiet .ensures, c .before .is-byte .ensures, c .before .before .passed .ensures, c .before .before .before .gap .ensures, c .before .before .before .before .limit-of .ensures)))
+    (λ c κs. search needs)
+    (λ c. rw (c .is-quiet .ensures, c .before .is-byte .ensures, c .before .before .is-car .ensures, c .before .before .before .before .passed .ensures, c .before .before .before .before .before .gap .ensures, c .before .before .before .before .before .before .limit-of .ensures)))

@@ -15,4 +15,6 @@ hear-byte-spec =
     (λ c κs. search needs)
     (λ c κs. search needs)
     (λ c κs. search needs)
-    (λ c. rw (c .make2 .ensures, c .before .after-stop .ensures, c .before .before .before .make .ensures, c .before .before .before .before .after-byte .ensures, c .before .before .before .before .before .hear .ensures)))
+    (λ c κs. search needs)
+    (λ c κs. search needs)
+    (λ c. rw (c .make3 .ensures, c .before .after-stop .ensures, c .before .before .before .make2 .ensures, c .before .before .before .before .after-byte .ensures, c .before .before .before .before .before .hear .ensures, c .before .before .before .before .before .before .before .make .ensures, c .before .before .before .before .before .before .before .before .before-byte .ensures)))

@@ -25,6 +25,6 @@ respond-spec =
     (λ c κs. search needs)
     (λ c κs. search needs)
     (λ c κs. search needs)
-    (λ c. rw (c .go-on2 .ensures, c .before .first-byte .ensures, c .before .before .gap .ensures) (first-step _ _ _ (sym (c .before .before .before .before .before .before .before .before .before .before .number .ensures) ∙ c .before .before .before .before .before .before .before .before .before .if1 .left) (sym (c .before .before .before .before .is-first-byte .ensures) ∙ c .before .before .before .if3 .taken)))
+    (λ c. rw (c .go-on2 .ensures, c .before .first-frame-byte .ensures, c .before .before .gap .ensures) (first-step _ _ _ (sym (c .before .before .before .before .before .before .before .before .before .before .number .ensures) ∙ c .before .before .before .before .before .before .before .before .before .if1 .left) (sym (c .before .before .before .before .is-first-byte .ensures) ∙ c .before .before .before .if3 .taken)))
     (λ c κs. search needs)
     (λ c. rw (c .take .ensures, ← (c .before .before .before .before .before .before .before .before .number .ensures), eq-eqb _ _ (c .before .before .before .before .before .before .before .if1 .left))))

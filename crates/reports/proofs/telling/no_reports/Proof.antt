@@ -11,4 +11,5 @@ no-reports-spec =
     (λ c κs. search needs)
     (λ c κs. search needs)
     (λ c κs. search needs)
-    (λ c. rw (c .no-report3 .ensures, c .before .no-report2 .ensures, c .before .before .no-report .ensures)))
+    (λ c κs. search needs)
+    (λ c. rw (c .no-report4 .ensures, c .before .no-report3 .ensures, c .before .before .no-report2 .ensures, c .before .before .before .no-report .ensures)))

@@ -1,0 +1,68 @@
+-- Messages of an ISO 9141-2 car (document 02, "Five"; ISO 9141-2, clause 11). "There is no length: a message ends when 20 ms pass, its last byte is the checksum".
+-- No byte is kept: only how many came, up to 12, the sum of all, and the reason that the message is damage for if it ends with the byte heard last.
+-- Assumes nothing.
+use Prim.Native.Nat.{ℕ, _+_}
+use mathlib.Core.Bool.{Bool, false, not, _&&_, _||_}
+use lib.Dec.{eqb, leb, ltb}
+use Rattle.base.specs.Choice.{if_then_else_}
+use Rattle.base.specs.Sums.{byteSum}
+use Rattle.base.specs.Reports.{noReason, wrongForm, wrongLength, wrongSum}
+use Rattle.events.specs.Events.{isTester}
+use Rattle.events.specs.declared.Side.{Side}
+use Rattle.talk.specs.declared.Part.the-variants.{Free}
+use Rattle.talk.specs.declared.Message.{Message}
+
+-- "A request is 68 6A F1, one to seven data bytes and the checksum; a reply is 48 6B, the unit's address, the same.": whether the byte at an index is right as
+-- one of the head. After the head any byte is, and so is any address of a unit.
+unfoldable pub isHeadByte : Side → ℕ → ℕ → Bool
+isHeadByte side at v =
+    if eqb at 0 then eqb v (if isTester side then 0x68 else 0x48) else
+    if eqb at 1 then eqb v (if isTester side then 0x6A else 0x6B) else
+    (not (isTester side) || eqb v 0xF1 || not (eqb at 2))
+
+-- one byte more; 12 are too many, and no more are counted
+unfoldable pub countedUp : ℕ → ℕ
+countedUp at = if ltb at 12 then at + 1 else at
+
+-- "a message of under 5 or over 11 bytes is damage reason 8"
+unfoldable pub isCarSize : ℕ → Bool
+isCarSize n = leb 5 n && leb n 11
+
+-- "a wrong head byte is 6, head before size before sum (9)": a message that ends with this byte. Once its head is wrong, it stays so.
+unfoldable pub carReason : Message → ℕ → ℕ
+carReason m v =
+    if eqb (m .why) wrongForm || not (isHeadByte (m .side) (m .at) v) then wrongForm else
+    if not (isCarSize (countedUp (m .at))) then wrongLength else
+    if eqb v (m .sum) then noReason else wrongSum
+
+-- with one byte more
+unfoldable pub carGrown : Message → ℕ → Message
+carGrown m v = record {
+  seven = m .seven;
+  side = m .side;
+  part = Free;
+  extra = m .extra;
+  length = m .length;
+  at = countedUp (m .at);
+  sum = byteSum (m .sum) v;
+  first = m .first;
+  why = carReason m v;
+}
+
+-- before its first byte, and with it. What frames of 14230 say by their data, first byte, length and the first seven, stays 0 here: "The rules on 82, 83 .. are
+-- for 14230 links only."
+abbrev pub carEmpty : Side → Message
+carEmpty side = record {
+  seven = 0;
+  side = side;
+  part = Free;
+  extra = false;
+  length = 0;
+  at = 0;
+  sum = 0;
+  first = 0;
+  why = noReason;
+}
+
+unfoldable pub carBegun : Side → ℕ → Message
+carBegun side v = carGrown (carEmpty side) v
