@@ -2,11 +2,14 @@
 """Writes a realistic list of events for measuring: sessions of a workshop that loads a control unit, one after another.
 
 Each session starts fast or slow, sets new timing, loads blocks of data, reads some values, and stops; a tick comes now and then, and now and
-then a byte is lost. Three numbers of 64 bits an event, lowest byte first: value, side and kind (by their letters) in the lowest bytes of the
-first, then start and end; or, with the word text, a line an event as the listing program reads them. The events are written as they are made
-up, so that no number of them takes more memory.
+then a byte is lost. With the word cars they are sessions with ISO 9141-2 cars, the key bytes 08 08 and 94 94 in turn: each asks what there is
+to read, reads values, one unit or two answering, then the trouble codes, and ends in a drop or after 5 s without a request.
 
-Use: bench/events.py N [text] > FILE (N events and the rest of their session, and the digest of their reports on standard error)
+Three numbers of 64 bits an event, lowest byte first: value, side and kind (by their letters) in the lowest bytes of the first, then start and
+end; or, with the word text, a line an event as the listing program reads them. The events are written as they are made up, so that no number
+of them takes more memory.
+
+Use: bench/events.py N [cars] [text] > FILE (N events and the rest of their session, and the digest of their reports on standard error)
 """
 
 import os
@@ -14,7 +17,7 @@ import struct
 import sys
 
 sys.path.insert(0, os.path.join(os.path.dirname(os.path.abspath(__file__)), "..", "tests"))
-from link_reference import Dice, Link  # noqa: E402
+from link_reference import CAR_KEYS, HEADS, Dice, Link  # noqa: E402
 from make_lists import line  # noqa: E402
 
 
@@ -56,16 +59,22 @@ class Workshop:
             for i, value in enumerate(reply + [sum(reply) % 256]):
                 self.byte("e", value, 0 if i else 30_000)
         else:
-            self.send("A", "", 0x33, at, at + 2_000_000)
-            for side, value, gap in (("e", 0x55, 100_000), ("e", 0xEF, 10_000), ("e", 0x8F, 5_000), ("t", 0x70, 30_000), ("e", 0xCC, 30_000)):
-                self.byte(side, value, gap)
+            self.slow_start(at, 0xEF, 0x8F)
+
+    def slow_start(self, at, kb1, kb2):
+        self.send("A", "", 0x33, at, at + 2_000_000)
+        for side, value, gap in (("e", 0x55, 100_000), ("e", kb1, 10_000), ("e", kb2, 5_000), ("t", 255 - kb2, 30_000), ("e", 0xCC, 30_000)):
+            self.byte(side, value, gap)
 
     def message(self, side, data, gap):
-        d = self.dice
         head = [0x80 + len(data)] if len(data) < 64 else [0x80]
         head += [0x11, 0xF1] if side == "t" else [0xF1, 0x11]
         head += [len(data)] if len(data) > 63 else []
-        frame = head + data
+        self.say(side, head + data, gap)
+
+    def say(self, side, frame, gap):
+        """A frame with its checksum behind it; whether no byte was lost."""
+        d = self.dice
         if d.one_in(40):
             tick = max(self.link.mark + gap // 2, self.link.clock)
             self.send("T", "", 0, tick, tick)
@@ -75,6 +84,7 @@ class Workshop:
                 self.byte(side, value, gap if i == 0 else 5_000 if side == "t" else 0)
         if lost is not None:
             self.send("T", "", 0, self.link.mark + 60_000, self.link.mark + 60_000)
+        return lost is None
 
     def exchange(self, asked, given):
         quick = self.link.windows[2] < 55_000
@@ -100,8 +110,37 @@ class Workshop:
         return self
 
 
+class Garage(Workshop):
+    """Sessions with cars. What two units answer stands apart by more than 20 ms, as else it would be one message."""
+
+    def exchange(self, asked, given, quick):
+        """A request and the answers to it, each with its unit's address."""
+        whole = self.say("t", HEADS["t"] + asked, 60_000)
+        for i, answer in enumerate(given):
+            whole = whole and self.say("e", HEADS["e"] + answer, 2_000 if quick and i == 0 else 30_000)
+
+    def session(self):
+        for kb1, kb2 in CAR_KEYS:
+            self.drive(kb1, kb2)
+
+    def drive(self, kb1, kb2):
+        d, quick = self.dice, CAR_KEYS[kb1, kb2] == 0
+        self.slow_start(max(self.link.mark + 320_000, self.link.clock), kb1, kb2)
+        self.exchange([0x01, 0x00], [[unit, 0x41, 0x00] + [d.below(256) for _ in range(4)] for unit in (0x10, 0x18)], quick)
+        for _ in range(40):
+            what, size = d.pick((0x04, 1), (0x05, 1), (0x0C, 2), (0x0C, 2), (0x0D, 1), (0x10, 2), (0x11, 1))
+            units = (0x10, 0x18) if d.one_in(8) else (0x10,)
+            self.exchange([0x01, what], [[unit, 0x41, what] + [d.below(256) for _ in range(size)] for unit in units], quick)
+        self.exchange([0x03], [[0x10, 0x43] + [d.below(256) for _ in range(6)]], quick)
+        late = self.link.mark + 5_000_001
+        at, kind = d.pick((late, "T"), (max(self.link.mark + 100_000, self.link.clock), "D"))
+        self.send(kind, "", 0, at, at)
+
+
 if __name__ == "__main__":
-    if len(sys.argv) not in (2, 3) or not sys.argv[1].isdigit() or sys.argv[2:] not in ([], ["text"]):
+    words = sys.argv[2:]
+    if len(sys.argv) < 2 or not sys.argv[1].isdigit() or words not in ([], ["text"], ["cars"], ["cars", "text"]):
         sys.exit(__doc__)
-    w = Workshop(sys.stdout.buffer.write, text if sys.argv[2:] else numbers).run(int(sys.argv[1]))
+    sessions = Garage if "cars" in words else Workshop
+    w = sessions(sys.stdout.buffer.write, text if "text" in words else numbers).run(int(sys.argv[1]))
     print(f"{w.events} events, digest {w.digest}", file=sys.stderr)
