@@ -22,4 +22,5 @@ pub mod DemandOne
 pub mod DemandTwo
 pub mod DemandThree
 pub mod Deciding
+pub mod Cars
 pub mod Beside

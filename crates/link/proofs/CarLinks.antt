@@ -19,15 +19,15 @@ use Rattle.events.specs.Events.{isTester}
 use Rattle.events.specs.declared.Side.{Side}
 use Rattle.events.specs.declared.Event.{Event}
 use Rattle.starts.specs.declared.Start.{Start}
-use Rattle.talk.specs.Cars.{carGrown, carBegun}
+use Rattle.talk.specs.Cars.{carReason, carGrown, carBegun}
 use Rattle.talk.specs.Talk.{hasExtra, afterAddresses, partAfterFormat, begun, begunBy, isFree, endReason, afterData, withData, grownAt, grown, isExactly, asksCodes}
 use Rattle.talk.specs.Talk.{requestOf, isEffective, windowsAfter, requestAfter}
 use Rattle.talk.specs.declared.Part.{Part}
 use Rattle.talk.specs.declared.Part.the-variants.{Target, Source, Length, Data, Sum, Free}
 use Rattle.talk.specs.declared.Request.the-variants.{Ordinary}
 use Rattle.talk.specs.declared.Message.{Message}
-use Rattle.phases.specs.Phases.{isHeld, isOpen, isConnected, down, starting, connected, talking, holding, damaged, settled, timed, asked, answered, framed}
-use Rattle.phases.specs.declared.State.the-variants.{Quiet, Held}
+use Rattle.phases.specs.Phases.{isHeld, isConnected, down, starting, connected, talking, holding, damaged, settled, timed, asked, answered, framed}
+use Rattle.phases.specs.declared.State.the-variants.{Held}
 use Rattle.phases.specs.declared.Phase.{Phase}
 use Rattle.phases.proofs.StateTests.{open-connected, held-is}
 use Rattle.moves.specs.declared.Move.{Move}
@@ -37,13 +37,13 @@ use Rattle.reports.specs.declared.Counts.{Counts}
 use Rattle.link.specs.Handling.{freshLink}
 use Rattle.link.specs.Stepping.{stepOf}
 use Rattle.link.specs.declared.Link.{Link}
+use Rattle.link.proofs.Ways.{off-right}
 use Rattle.link.proofs.Kept.{step-keeps}
 
 -- a message of a car, which keeps nothing of its data
 pub record Blank (m : Message) : Type 0 where
   pub part : m .part ≡ Free
   pub first : m .first ≡ 0
-  pub size : m .length ≡ 0
   pub seven : m .seven ≡ 0
 
 pub record InCar (p : Phase) : Type 0 where
@@ -60,7 +60,7 @@ pub right-free : (m : Message) → eqb (endReason m) noReason ≡ true → isFre
 unfolding endReason
 right-free m r = by-free (isFree (m .part)) refl r
   where
-    by-free : (b : Bool) → isFree (m .part) ≡ b → eqb (if b then m .why else 1) noReason ≡ true → b ≡ true
+    by-free : (b : Bool) → isFree (m .part) ≡ b → eqb (if b then carReason m else 1) noReason ≡ true → b ≡ true
     by-free true f r = refl
     by-free false f r = absurd (false≢true r)
 
@@ -96,15 +96,15 @@ grown-free Free m v f = refl
 
 pub blank-grown : (m : Message) (v : ℕ) → Blank m → Blank (grown m v)
 unfolding grown carGrown
-blank-grown m v b = rw (b .part) (record { part = refl; first = b .first; size = b .size; seven = b .seven })
+blank-grown m v b = rw (b .part) (record { part = refl; first = b .first; seven = b .seven })
 
 pub blank-begun : (side : Side) (v : ℕ) → Blank (carBegun side v)
 unfolding carBegun carGrown
-blank-begun side v = record { part = refl; first = refl; size = refl; seven = refl }
+blank-begun side v = record { part = refl; first = refl; seven = refl }
 
 pub blank-request : (m : Message) → Blank m → requestOf m ≡ Ordinary
 unfolding requestOf isExactly asksCodes
-blank-request m b = rw (b .first, b .size) refl
+blank-request m b = rw (b .first, b .seven, off-right (eqb (m .length) 2) false refl, off-right (eqb (m .length) 7) false refl) refl
 
 -- ---- phases
 settled-fits : (p : Phase) → isConnected (p .state) ≡ true → Fitting p → Fitting (settled p)

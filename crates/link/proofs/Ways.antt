@@ -26,7 +26,7 @@ use Rattle.talk.specs.declared.Part.{Part}
 use Rattle.talk.specs.declared.Part.the-variants.{Target, Source, Length, Data, Sum, Free}
 use Rattle.talk.specs.declared.Message.{Message}
 use Rattle.phases.specs.Phases.{isStarting, isQuiet, isHeld, isOpen, talking, holding, damaged}
-use Rattle.moves.specs.Moves.{still, isSilent, afterSilence, isCutIn, beforeByte, afterP2, afterP3, sinceOrigin, afterWindow}
+use Rattle.moves.specs.Moves.{still, isSilent, ended, afterSilence, isCutIn, beforeByte, afterP2, afterP3, sinceOrigin, afterWindow}
 use Rattle.moves.specs.Moves.{reasonAtFirst, firstByte, firstFrameByte, laterByte, byteIn, afterByte, afterStop}
 use Rattle.phases.specs.declared.State.{State}
 use Rattle.phases.specs.declared.State.the-variants.{Down, Starting, Quiet, Held, Damage}
@@ -36,7 +36,7 @@ use Rattle.reports.specs.Counting.{countedEvent}
 use Rattle.link.specs.Handling.{passed, byteHeard, actedBy, acted, handled, markAfter, linkAfter}
 use Rattle.link.specs.Handling.{begun as begins}
 use Rattle.link.specs.Stepping.{numberOf, takenBy, answerOf, countsAfter, stepOf}
-use Rattle.link.specs.Quick.{limitOf, calmIn, isCalm, wentOn, isInside, goesOn, isFirstByte}
+use Rattle.link.specs.Quick.{limitOf, calmIn, isCalm, cutsBy, cutBy, approached, actsBy, wentOn, isInside, goesOn, isFirstByte}
 use Rattle.link.specs.Running.{runsOn, ranOn}
 use Rattle.link.specs.declared.Link.{Link}
 use Rattle.reports.specs.declared.Counts.{Counts}
@@ -123,6 +123,35 @@ unfolding passed afterSilence afterP2 afterP3 afterWindow
 passed-calm r mark start h =
     let c = calm (r .phase) mark start h in
     rw (c .silent, moved-still r, c .replied, moved-still r, c .busy, moved-still r, c .within) (moved-still r)
+
+-- ---- a byte that ends what is held does so before it acts: the code looks for it with the time that passes
+cut-is : (b : Bool) (r : Run) → (if b && true then moved r (ended (r .phase)) else r) ≡ moved r (if b then ended (r .phase) else still (r .phase))
+cut-is true r = refl
+cut-is false r = sym (moved-still r)
+
+cut-none : (b : Bool) (r : Run) → (if b && false then moved r (ended (r .phase)) else r) ≡ r
+cut-none true r = refl
+cut-none false r = refl
+
+acts-after : (k : Kind) (r : Run) (e : Event) (mark : Micros) → e .kind ≡ k → actsBy k (cutBy r e) e mark ≡ actedBy k r e mark
+unfolding cutBy cutsBy isByte byteHeard beforeByte
+acts-after Byte r e mark k = rw k (ap (λ (x : Run). actsBy Byte x e mark) (cut-is (isCutIn (r .phase) (e .side)) r))
+acts-after Address r e mark k = rw k (ap (λ (x : Run). actedBy Address x e mark) (cut-none (isCutIn (r .phase) (e .side)) r))
+acts-after WakeUp r e mark k = rw k (ap (λ (x : Run). actedBy WakeUp x e mark) (cut-none (isCutIn (r .phase) (e .side)) r))
+acts-after Tick r e mark k = rw k (cut-none (isCutIn (r .phase) (e .side)) r)
+acts-after Drop r e mark k = rw k (ap (λ (x : Run). actedBy Drop x e mark) (cut-none (isCutIn (r .phase) (e .side)) r))
+acts-after Other r e mark k = rw k (cut-none (isCutIn (r .phase) (e .side)) r)
+
+pub acts-handled : (l : Link) (e : Event) → actsBy (e .kind) (approached (begins l e) e (l .mark)) e (l .mark) ≡ handled l e
+unfolding approached handled acted
+acts-handled l e = acts-after (e .kind) (passed (begins l e) (l .mark) (e .start)) e (l .mark) refl
+
+-- where no time runs out and nothing is ended, nothing comes before an event
+pub approached-calm : (r : Run) (e : Event) (mark : Micros) → (isCalm (r .phase) mark (e .start) && not (cutsBy (r .phase) e)) ≡ true → approached r e mark ≡ r
+unfolding approached cutBy
+approached-calm r e mark h =
+    let x = and-split (isCalm (r .phase) mark (e .start)) _ h in
+    rw (passed-calm r mark (e .start) (x .0), not-true (cutsBy (r .phase) e) (x .1)) refl
 
 -- ---- a byte before which no time runs out, and which makes no report
 byte-acts : (k : Kind) (r : Run) (e : Event) (mark : Micros) → isByte k ≡ true → actedBy k r e mark ≡ byteHeard r e mark

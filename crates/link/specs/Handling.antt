@@ -41,11 +41,13 @@ abbrev pub hearing : Run → Run
 hearing r = record { phase = r .phase; heard = countSum (r .heard) 1; named = r .named; time = r .time; reports = r .reports }
 
 -- a byte: it may end what is held "before that byte acts"; then it is heard, and its own rule acts; and then the link may have been stopped
+abbrev pub byteActs : Run → Event → Micros → Run
+byteActs r e mark =
+    let r1 = moved (hearing r) (afterByte (r .phase) (e .side) (e .value) mark (e .start)) in
+    moved r1 (afterStop (r1 .phase))
+
 unfoldable pub byteHeard : Run → Event → Micros → Run
-byteHeard r e mark =
-    let r1 = moved r (beforeByte (r .phase) (e .side)) in
-    let r2 = moved (hearing r1) (afterByte (r1 .phase) (e .side) (e .value) mark (e .start)) in
-    moved r2 (afterStop (r2 .phase))
+byteHeard r e mark = byteActs (moved r (beforeByte (r .phase) (e .side))) e mark
 
 -- what it does, by its kind; what is open is closed first, so that a start is judged by the idle time that closing has left
 abbrev pub actedBy : Kind → Run → Event → Micros → Run

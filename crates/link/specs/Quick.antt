@@ -11,17 +11,21 @@ use Rattle.keys.specs.Editions.{editionOf, isCar}
 use Rattle.timing.specs.Timing.{isPassed}
 use Rattle.timing.specs.declared.Limit.{Limit}
 use Rattle.events.specs.Events.{isByte, sameSide}
+use Rattle.events.specs.declared.Kind.{Kind}
+use Rattle.events.specs.declared.Kind.the-variants.{Address, WakeUp, Byte, Tick, Drop, Other}
 use Rattle.events.specs.declared.Event.{Event}
 use Rattle.starts.specs.Starts.{isOver}
 use Rattle.talk.specs.Talk.{isFirst}
 use Rattle.talk.specs.declared.Part.{Part}
 use Rattle.talk.specs.declared.Part.the-variants.{Target, Source, Length, Data, Sum, Free}
 use Rattle.phases.specs.Phases.{isHeld, isQuiet}
-use Rattle.moves.specs.Moves.{isSilent, sinceOrigin}
+use Rattle.moves.specs.Moves.{isSilent, ended, isCutIn, sinceOrigin}
 use Rattle.phases.specs.declared.State.{State}
 use Rattle.phases.specs.declared.State.the-variants.{Down, Starting, Quiet, Held, Damage}
 use Rattle.phases.specs.declared.Phase.{Phase}
-use Rattle.reports.specs.Reporting.{noReports}
+use Rattle.reports.specs.Reporting.{noReports, moved}
+use Rattle.reports.specs.declared.Run.{Run}
+use Rattle.link.specs.Handling.{passed, byteActs, actedBy}
 use Rattle.link.specs.declared.Link.{Link}
 use Rattle.link.specs.declared.Answer.{Answer}
 
@@ -38,6 +42,24 @@ calmIn Damage p mark start = not (isSilent (gapOf mark start))
 
 unfoldable pub isCalm : Phase → Micros → Micros → Bool
 isCalm p mark start = calmIn (p .state) p mark start
+
+-- A byte may end what is held, before it acts (`beforeByte`). What comes before any event acts, and what it does then: together `acted` after `passed`.
+unfoldable pub cutsBy : Phase → Event → Bool
+cutsBy p e = isCutIn p (e .side) && isByte (e .kind)
+
+unfoldable pub cutBy : Run → Event → Run
+cutBy r e = if cutsBy (r .phase) e then moved r (ended (r .phase)) else r
+
+unfoldable pub approached : Run → Event → Micros → Run
+approached r e mark = cutBy (passed r mark (e .start)) e
+
+abbrev pub actsBy : Kind → Run → Event → Micros → Run
+actsBy Address r e mark = actedBy Address r e mark
+actsBy WakeUp r e mark = actedBy WakeUp r e mark
+actsBy Byte r e mark = byteActs r e mark
+actsBy Tick r e mark = r
+actsBy Drop r e mark = actedBy Drop r e mark
+actsBy Other r e mark = r
 
 -- the answer to a byte before which no time runs out and which makes no report
 unfoldable pub wentOn : Link → Event → Phase → Answer

@@ -1,7 +1,7 @@
 // Short ways for the common byte. Under these tests the answer is the one that the rules give:
 // `proofs/Ways.antt`.
 ghost use mathlib.Core.Path.{_≡_};
-ghost use Rattle.link.specs.Quick.{limitOf, isCalm, wentOn, isInside, goesOn, isFirstByte};
+ghost use Rattle.link.specs.Quick.{limitOf, isCalm, cutsBy, wentOn, isInside, goesOn, isFirstByte};
 use crate::Answer;
 use crate::Link;
 use events::Event;
@@ -49,6 +49,15 @@ pub(crate) fn is_calm(p: Phase, mark: Micros, start: Micros) -> bool
             !over
         }
     }
+}
+
+// Whether an event is a byte that ends what is held.
+pub(crate) fn cuts(p: Phase, e: Event) -> bool
+    ensures { λ r. ⌜ r ≡ cutsBy p e ⌝ }
+{
+    let kind = e.kind;
+    let side = e.side;
+    moves::is_cut_in(p, side) & events::is_byte(kind)
 }
 
 // A byte that makes no report.

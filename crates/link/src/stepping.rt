@@ -1,10 +1,12 @@
 // A step of the link.
 ghost use mathlib.Core.Path.{_≡_};
-ghost use Rattle.link.specs.Handling.{freshLink, passed, shut, hearing, byteHeard, acted, begun, handled, markAfter, linkAfter};
+ghost use Rattle.link.specs.Handling.{freshLink, passed, shut, hearing, byteActs, begun, handled, markAfter, linkAfter};
+ghost use Rattle.link.specs.Quick.{cutBy, approached, actsBy};
 ghost use Rattle.link.specs.Stepping.{numberOf, refusedBy, takenBy, answerOf, countsAfter, stepOf};
 use crate::Answer;
 use crate::Link;
 use crate::Stepped;
+use crate::quick::cuts;
 use crate::quick::go_on;
 use crate::quick::goes_on;
 use crate::quick::is_calm;
@@ -36,9 +38,6 @@ fn pass(r: Run, mark: Micros, start: Micros) -> Run
     ensures { λ x. ⌜ x ≡ passed r mark start ⌝ }
 {
     let p = r.phase;
-    if is_calm(p, mark, start) {
-        return r;
-    }
     let gap = units::gap(mark, start);
     let r1 = make(r, moves::after_silence(p, gap));
     let p1 = r1.phase;
@@ -47,6 +46,28 @@ fn pass(r: Run, mark: Micros, start: Micros) -> Run
     let r3 = make(r2, moves::after_p3(p2, gap));
     let p3 = r3.phase;
     make(r3, moves::after_window(p3, mark, start))
+}
+
+// A byte ends what is held, or does not.
+fn cut_in(r: Run, e: Event) -> Run
+    ensures { λ x. ⌜ x ≡ cutBy r e ⌝ }
+{
+    let p = r.phase;
+    if cuts(p, e) {
+        return make(r, moves::end_open(p));
+    }
+    r
+}
+
+// What comes before an event acts: time passes, and a byte may end what is held.
+fn approach(r: Run, e: Event, mark: Micros) -> Run
+    ensures { λ x. ⌜ x ≡ approached r e mark ⌝ }
+{
+    let p = r.phase;
+    if is_calm(p, mark, e.start) & !cuts(p, e) {
+        return r;
+    }
+    cut_in(pass(r, mark, e.start), e)
 }
 
 // What is open is closed, and a connected link goes down.
@@ -77,23 +98,18 @@ fn hear(r: Run) -> Run
 
 // A byte acts.
 fn hear_byte(r: Run, e: Event, mark: Micros) -> Run
-    ensures { λ x. ⌜ x ≡ byteHeard r e mark ⌝ }
+    ensures { λ x. ⌜ x ≡ byteActs r e mark ⌝ }
 {
     let p = r.phase;
     let side = e.side;
-    let r1 = make(r, moves::before_byte(p, side));
+    let r1 = make(hear(r), moves::after_byte(p, side, e.value, mark, e.start));
     let p1 = r1.phase;
-    let r2 = make(
-        hear(r1),
-        moves::after_byte(p1, side, e.value, mark, e.start),
-    );
-    let p2 = r2.phase;
-    make(r2, moves::after_stop(p2))
+    make(r1, moves::after_stop(p1))
 }
 
 // An event acts.
 fn act(r: Run, e: Event, mark: Micros) -> Run
-    ensures { λ x. ⌜ x ≡ acted r e mark ⌝ }
+    ensures { λ x. ⌜ x ≡ actsBy (e .kind) r e mark ⌝ }
 {
     let kind = e.kind;
     match kind {
@@ -133,7 +149,7 @@ fn enter(l: Link, e: Event) -> Run
 fn handle(l: Link, e: Event) -> Run
     ensures { λ x. ⌜ x ≡ handled l e ⌝ }
 {
-    act(pass(enter(l, e), l.mark, e.start), e, l.mark)
+    act(approach(enter(l, e), e, l.mark), e, l.mark)
 }
 
 // The mark after an event.

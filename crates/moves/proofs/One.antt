@@ -7,7 +7,7 @@ use Rattle.units.specs.declared.Micros.{Micros}
 use Rattle.moves.specs.declared.Move.{Move}
 use Rattle.phases.specs.declared.Phase.{Phase}
 use Rattle.events.specs.declared.Side.{Side}
-use Rattle.moves.specs.Moves.{startingSlow, startingFast, firstFrameByte, afterByte, afterStop, isSilent, afterSilence, beforeByte, afterP2, afterP3, sinceOrigin, afterWindow, closing, leaving}
+use Rattle.moves.specs.Moves.{startingSlow, startingFast, firstFrameByte, afterByte, afterStop, isSilent, ended, afterSilence, isCutIn, afterP2, afterP3, sinceOrigin, afterWindow, closing, leaving}
 
 pub starting-slow : (idle : Micros) (address : ℕ) (mark start : Micros) → Only (λ (r : Move). r ≡ startingSlow idle address mark start)
 starting-slow idle address mark start = only (startingSlow idle address mark start)
@@ -27,8 +27,11 @@ after-stop p = only (afterStop p)
 pub is-silent : (gap : Micros) → Only (λ (r : Bool). r ≡ isSilent gap)
 is-silent gap = only (isSilent gap)
 
-pub before-byte : (p : Phase) (side : Side) → Only (λ (r : Move). r ≡ beforeByte p side)
-before-byte p side = only (beforeByte p side)
+pub end-open : (p : Phase) → Only (λ (r : Move). r ≡ ended p)
+end-open p = only (ended p)
+
+pub is-cut-in : (p : Phase) (side : Side) → Only (λ (r : Bool). r ≡ isCutIn p side)
+is-cut-in p side = only (isCutIn p side)
 
 pub after-silence : (p : Phase) (gap : Micros) → Only (λ (r : Move). r ≡ afterSilence p gap)
 after-silence p gap = only (afterSilence p gap)

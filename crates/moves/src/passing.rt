@@ -1,6 +1,6 @@
 // What passing time and a closing event do.
 ghost use mathlib.Core.Path.{_≡_};
-ghost use Rattle.moves.specs.Moves.{still, makes, isSilent, lossReason, isRight, ended, afterSilence, isCutIn, beforeByte, afterP2, afterP3, sinceOrigin, afterWindow};
+ghost use Rattle.moves.specs.Moves.{still, makes, isSilent, lossReason, isRight, ended, afterSilence, isCutIn, afterP2, afterP3, sinceOrigin, afterWindow};
 ghost use Rattle.moves.specs.Moves.{closing, leaving};
 use crate::Move;
 use events::Side;
@@ -70,7 +70,7 @@ fn is_right(p: Phase) -> bool
 }
 
 // What is open has ended: a frame, or damage.
-fn end_open(p: Phase) -> Move
+pub fn end_open(p: Phase) -> Move
     ensures { λ r. ⌜ r ≡ ended p ⌝ }
 {
     let m = p.message;
@@ -98,7 +98,7 @@ pub fn after_silence(p: Phase, gap: Micros) -> Move
 
 // Whether a byte of this side ends the message held: the unit's, which may answer at once, the
 // tester's.
-fn is_cut_in(p: Phase, side: Side) -> bool
+pub fn is_cut_in(p: Phase, side: Side) -> bool
     ensures { λ r. ⌜ r ≡ isCutIn p side ⌝ }
 {
     let state = p.state;
@@ -107,16 +107,6 @@ fn is_cut_in(p: Phase, side: Side) -> bool
     let s = p.start;
     let pair = s.pair;
     is_held(state) & events::is_tester(whose) & events::is_unit(side) & keys::is_quick(pair)
-}
-
-// A byte comes, before it acts.
-pub fn before_byte(p: Phase, side: Side) -> Move
-    ensures { λ r. ⌜ r ≡ beforeByte p side ⌝ }
-{
-    if is_cut_in(p, side) {
-        return end_open(p);
-    }
-    stay(p)
 }
 
 // P2 max passes while a first reply is awaited.

@@ -1,5 +1,5 @@
 -- Messages of an ISO 9141-2 car (document 02, "Five"; ISO 9141-2, clause 11). "There is no length: a message ends when 20 ms pass, its last byte is the checksum".
--- No byte is kept: only how many came, up to 12, the sum of all, and the reason that the message is damage for if it ends with the byte heard last.
+-- No byte is kept but the last one (in `length`: there is none); beside it how many came, up to 12, the sum of those before the last, and whether the head is wrong.
 -- Assumes nothing.
 use Prim.Native.Nat.{ℕ, _+_}
 use mathlib.Core.Bool.{Bool, false, not, _&&_, _||_}
@@ -28,29 +28,30 @@ countedUp at = if ltb at 12 then at + 1 else at
 unfoldable pub isCarSize : ℕ → Bool
 isCarSize n = leb 5 n && leb n 11
 
--- "a wrong head byte is 6, head before size before sum (9)": a message that ends with this byte. Once its head is wrong, it stays so.
-unfoldable pub carReason : Message → ℕ → ℕ
-carReason m v =
-    if eqb (m .why) wrongForm || not (isHeadByte (m .side) (m .at) v) then wrongForm else
-    if not (isCarSize (countedUp (m .at))) then wrongLength else
-    if eqb v (m .sum) then noReason else wrongSum
-
--- with one byte more
+-- with one byte more. Once its head is wrong, it stays so.
 unfoldable pub carGrown : Message → ℕ → Message
 carGrown m v = record {
   seven = m .seven;
   side = m .side;
   part = Free;
   extra = m .extra;
-  length = m .length;
+  length = v;
   at = countedUp (m .at);
-  sum = byteSum (m .sum) v;
+  sum = byteSum (m .sum) (m .length);
   first = m .first;
-  why = carReason m v;
+  why = if isHeadByte (m .side) (m .at) v then m .why else wrongForm;
 }
 
--- before its first byte, and with it. What frames of 14230 say by their data, first byte, length and the first seven, stays 0 here: "The rules on 82, 83 .. are
--- for 14230 links only."
+-- "a message of under 5 or over 11 bytes is damage reason 8 and a wrong head byte is 6, head before size before sum (9)": the reason of one that ends here, and
+-- none if it is right
+unfoldable pub carReason : Message → ℕ
+carReason m =
+    if not (eqb (m .why) noReason) then wrongForm else
+    if not (isCarSize (m .at)) then wrongLength else
+    if eqb (m .length) (m .sum) then noReason else wrongSum
+
+-- before its first byte, and with it. What frames of 14230 say by their data, the first of it and the first seven, stays 0 here: "The rules on 82, 83 .. are for
+-- 14230 links only."
 abbrev pub carEmpty : Side → Message
 carEmpty side = record {
   seven = 0;

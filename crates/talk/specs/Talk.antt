@@ -31,7 +31,7 @@ use Rattle.talk.specs.declared.Request.the-variants.{Ordinary, Stop, Own
 use Rattle.talk.specs.declared.Part.{Part}
 use Rattle.talk.specs.declared.Part.the-variants.{Target, Source, Length, Data, Sum, Free}
 use Rattle.talk.specs.declared.Message.{Message}
-use Rattle.talk.specs.Cars.{carBegun, carGrown}
+use Rattle.talk.specs.Cars.{carReason, carBegun, carGrown}
 
 -- ---- the reply that may come
 unfoldable pub isFirst : Reply → Bool
@@ -84,8 +84,7 @@ firstReason pair reply w side f gap =
     if isCar (editionOf pair) then turnReason reply w side gap else frameReason (pair .kb1) reply w side f gap
 
 -- ---- a message: whose it is, the part that its next byte is, whether a length byte is among its parts, its length, how many data bytes have come,
--- the sum of all bytes, the first data byte and the first seven of them. `why` is the reason of damage. (Of a car's message: how many bytes have come, their
--- sum, and in `why` the reason that it would be damage for if it ended here.)
+-- the sum of all bytes, the first data byte and the first seven of them. `why` is the reason of damage. (Of a car's message: Cars.antt.)
 -- A frame's layout is `frame`'s: target and source in forms that carry them, then the length byte if any, the data, the checksum.
 unfoldable pub afterAddresses : Bool → Part
 afterAddresses extra = if extra then Length else Data
@@ -144,7 +143,7 @@ isFree Sum = false
 isFree Free = true
 
 unfoldable pub endReason : Message → ℕ
-endReason m = if isFree (m .part) then m .why else brokenOff
+endReason m = if isFree (m .part) then carReason m else brokenOff
 
 -- bytes as one number, the first in front
 abbrev pub number : List ℕ → ℕ

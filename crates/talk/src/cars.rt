@@ -39,38 +39,42 @@ fn is_car_size(n: u8) -> bool
     (5 <= n) & (n <= 11)
 }
 
-// The reason that a message is damage for if it ends with this byte: head, then size, then sum.
-fn car_reason(m: Message, v: u8) -> u8
-    ensures { λ r. ⌜ r ≡ carReason m v ⌝ }
-{
-    let side = m.side;
-    let headed = is_head_byte(side, m.at, v);
-    if (m.why == base::reason::WRONG_FORM) | !headed {
-        return base::reason::WRONG_FORM;
-    }
-    let sized = is_car_size(count_up(m.at));
-    if !sized {
-        return base::reason::WRONG_LENGTH;
-    }
-    base::either(v == m.sum, base::reason::NONE, base::reason::WRONG_SUM)
-}
-
 // A message with one byte more.
 pub(crate) fn grow_car(m: Message, v: u8) -> Message
     ensures { λ r. ⌜ r ≡ carGrown m v ⌝ }
 {
     let side = m.side;
+    let headed = is_head_byte(side, m.at, v);
     Message {
         seven: m.seven,
         side: side,
         part: Part::Free,
         extra: m.extra,
-        length: m.length,
+        length: v,
         at: count_up(m.at),
-        sum: base::byte_sum(m.sum, v),
+        sum: base::byte_sum(m.sum, m.length),
         first: m.first,
-        why: car_reason(m, v),
+        why: base::either(headed, m.why, base::reason::WRONG_FORM),
     }
+}
+
+// The reason that a message is damage for if it ends here, or 0: its head, then its size, then its
+// sum.
+pub(crate) fn car_reason(m: Message) -> u8
+    ensures { λ r. ⌜ r ≡ carReason m ⌝ }
+{
+    if m.why != base::reason::NONE {
+        return base::reason::WRONG_FORM;
+    }
+    let sized = is_car_size(m.at);
+    if !sized {
+        return base::reason::WRONG_LENGTH;
+    }
+    base::either(
+        m.length == m.sum,
+        base::reason::NONE,
+        base::reason::WRONG_SUM,
+    )
 }
 
 // A message before its first byte.

@@ -57,8 +57,8 @@ pub enum Part {
 
 // A message being heard: its first seven data bytes as one number, whose it is, the part that is
 // next, whether it has a length byte, its length, the data bytes so far, the sum of all bytes, the
-// first data byte; and the reason of damage. Of a car's message: its bytes so far, their sum, and
-// the reason that it is damage for if it ends here.
+// first data byte; and the reason of damage. Of a car's message: its last byte (`length`: it has
+// none), its bytes so far, the sum of all but the last, and whether its head is wrong.
 pub struct Message {
     pub seven: u64,
     pub side: Side,
@@ -299,7 +299,7 @@ pub fn end_reason(m: Message) -> u8
 {
     let part = m.part;
     if is_free(part) {
-        return m.why;
+        return cars::car_reason(m);
     }
     base::reason::BROKEN_OFF
 }

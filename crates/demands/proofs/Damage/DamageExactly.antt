@@ -10,12 +10,12 @@ use native.Mathlib.Omega.{arith}
 use lib.ListN.{length}
 use Rattle.base.specs.Choice.{if_then_else_}
 use Rattle.base.specs.Numbers.{taken}
-use Rattle.base.specs.Reports.{damageReport, brokenOff, closed, noReason}
+use Rattle.base.specs.Reports.{damageReport, closed, noReason}
 use Rattle.units.specs.Units.{gapOf}
 use Rattle.units.specs.declared.Micros.{Micros}
 use Rattle.events.specs.declared.Kind.the-variants.{Drop, Byte}
 use Rattle.events.specs.declared.Event.{Event}
-use Rattle.phases.specs.Phases.{isOpen, down, talking, settled, isQuiet, isHeld}
+use Rattle.phases.specs.Phases.{isOpen, down, talking, settled, isHeld}
 use Rattle.phases.proofs.StateTests.{open-or, is-held}
 use Rattle.moves.specs.Moves.{lossReason, isSilent, isRight, isCutIn}
 use Rattle.moves.specs.declared.Move.{Move}
@@ -48,19 +48,16 @@ use Rattle.demands.proofs.Sessions.SessionLasts.{held-loss, tester-is, 
 use Rattle.demands.proofs.Histories.Holding.{framed-quiet}
 use Rattle.demands.specs.Messages.{CutsIn, EndsRight, Interrupts}
 use Rattle.demands.proofs.Sessions.CarMessages.{quick-car}
-use Rattle.demands.specs.Editions.{ofCar, ofQuickCar}
+use Rattle.demands.specs.Editions.{ofQuickCar}
 use Rattle.phases.proofs.StateTests.{held-is as held-is-state}
 use Rattle.demands.specs.Refusals.{Not}
 use Rattle.demands.specs.Ours.{ours}
 use Rattle.phases.specs.declared.Phase.{Phase}
 use Rattle.talk.specs.Talk.{endReason}
 use Rattle.events.specs.Events.{isByte, isTester, isUnit}
-use Rattle.keys.specs.declared.Pair.{Pair}
 use Rattle.phases.specs.declared.State.the-variants.{Held}
 use lib.Dec.{eqb}
-use Rattle.keys.specs.declared.Edition.{Edition}
-use Rattle.base.proofs.Tests.{and-split, by-test}
-use Rattle.keys.specs.Editions.{isQuick, isCar, editionOf}
+use Rattle.base.proofs.Tests.{and-split}
 use Prim.Native.String.{[]}
 
 -- ---- AN EVENT THAT IS TAKEN

@@ -10,13 +10,12 @@ use native.Mathlib.Omega.{arith}
 use lib.ListN.{take, drop, length-drop}
 use lib.Seq.{take-all, getD-drop}
 use Rattle.base.specs.Choice.{if_then_else_}
-use Rattle.base.specs.Reports.{damageReport, noReason, brokenOff, closed, early, stray}
+use Rattle.base.specs.Reports.{damageReport, noReason, closed, early, stray}
 use Rattle.units.specs.Units.{gapOf}
 use Rattle.units.specs.declared.Micros.{Micros}
 use Rattle.events.specs.declared.Kind.the-variants.{Address, WakeUp, Tick, Drop, Other}
 use Rattle.events.specs.declared.Event.{Event}
-use Rattle.phases.specs.Phases.{isHeld, noWindows}
-use Rattle.phases.specs.declared.Phase.{Phase}
+use Rattle.phases.specs.Phases.{isHeld}
 use Rattle.moves.specs.Moves.{lossReason, isSilent}
 use Rattle.reports.specs.declared.Report.{Report}
 use Rattle.link.specs.declared.Link.{Link}

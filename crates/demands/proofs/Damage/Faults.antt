@@ -261,22 +261,18 @@ module _ (side : Side) (f : ℕ) where
       grown-at _ v m Sum q (last refl (λ z. omega (arith, g z)) (omega (arith, said-on vs v g)))
 
   -- the sum goes on alike at every part
-  grown-sum : (m : Message) (v : ℕ) → grown m v .sum ≡ byteSum (m .sum) v
-  unfolding grown withData carGrown
-  grown-sum m v = by-part (m .part)
-    where
-      by-part : (part : Part) → grownAt part m v .sum ≡ byteSum (m .sum) v
-      by-part Target = refl
-      by-part Source = refl
-      by-part Length = refl
-      by-part Data = refl
-      by-part Sum = refl
-      by-part Free = refl
+  grown-sum : (vs : List ℕ) (v : ℕ) (m : Message) → Stands vs m → grown m v .sum ≡ byteSum (m .sum) v
+  unfolding grown withData
+  grown-sum vs v m (target q n a k) = ap (λ (p : Part). grownAt p m v .sum) q
+  grown-sum vs v m (source q n a k) = ap (λ (p : Part). grownAt p m v .sum) q
+  grown-sum vs v m (size q n z k) = ap (λ (p : Part). grownAt p m v .sum) q
+  grown-sum vs v m (inside q g a l e) = ap (λ (p : Part). grownAt p m v .sum) q
+  grown-sum vs v m (last q g e) = ap (λ (p : Part). grownAt p m v .sum) q
 
   goes-on : (vs : List ℕ) (v : ℕ) (m : Message) (s : Side) → v < 256 → laterReason m s v ≡ noReason → Tracks vs m → Tracks (vs ++ (v ∷ [])) (grown m v)
   goes-on vs v m s h r t = record {
     whose = grown-side m v ∙ t .whose;
-    sum = grown-sum m v ∙ sum-on vs v (m .sum) (t .sum);
+    sum = grown-sum vs v m (t .stands) ∙ sum-on vs v (m .sum) (t .sum);
     stands = stands-on vs v m h (length-some m s v r) (t .stands);
   }
 

@@ -7,14 +7,12 @@ use mathlib.Core.Path.{_≡_, refl, sym, _∙_, subst}
 use native.Mathlib.Omega.{arith}
 use Rattle.base.specs.Reports.{outsideReport, noReplyReport, downReport, windowOver, idleOver, stopped, dropped, restarted}
 use Rattle.reports.specs.declared.Report.{Report}
-use Rattle.demands.specs.Logs.{takenOf}
 use Rattle.demands.specs.Refusals.{Not}
 use Rattle.demands.specs.Histories.{Among, Tells}
-use Rattle.demands.specs.Accounts.{heldIn}
-use Rattle.demands.specs.Sessions.{Talk, Session, NoReply, IdleOver, gapBefore, replyOnceEnded}
+use Rattle.demands.specs.Sessions.{Talk, Session, NoReply, IdleOver, replyOnceEnded}
 use Rattle.demands.specs.Endings.{Downs}
 use Rattle.demands.proofs.Moves.ReportsInList.{says-speaks, tells-says, among-says}
-use Rattle.demands.proofs.Deciding.Agree.{held-same, session-move, stop-move, idle-over, reply-same}
+use Rattle.demands.proofs.Deciding.Agree.{session-move, stop-move, idle-over, reply-same}
 use Rattle.demands.proofs.Deciding.SameList.{Has}
 use Rattle.demands.proofs.Deciding.Messages.{frames-same}
 use Rattle.demands.proofs.Deciding.Sharing.{Both, turned, before, here, there, formed-here, formed-there, like, like-plain}

@@ -21,10 +21,10 @@ use Rattle.demands.specs.Logs.{Log, none, _▷_, heardOf, heardIn, numbe
 use Rattle.demands.specs.Idle.{idleUntil}
 use Rattle.demands.specs.Refusals.{Not}
 use Rattle.demands.specs.Histories.{Machine, reportsTo, reportsOf, isAmong, Says, Among}
-use Rattle.demands.specs.Accounts.{InTurn, namedBy, namedIn, heldIn}
+use Rattle.demands.specs.Accounts.{InTurn, namedBy, namedIn}
 use Rattle.demands.specs.Starts.{Low}
 use Rattle.demands.specs.Connecting.{Since, here, tick, byte, Connects}
-use Rattle.demands.specs.Sessions.{Talk, openedBy, talkAfter, Session, opens, lasts, IdleOver, gapBefore}
+use Rattle.demands.specs.Sessions.{Talk, openedBy, talkAfter, Session, opens, lasts, IdleOver}
 use Rattle.demands.specs.Endings.{Starter, NotIdle, WrongLow, Starting, starts, goes-on}
 use Rattle.demands.specs.Deciding.{Meets}
 use Rattle.demands.proofs.Connecting.ConnectsExactly.{log-taken, log-refused}

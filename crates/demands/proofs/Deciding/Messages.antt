@@ -21,8 +21,8 @@ use Rattle.reports.specs.declared.Report.{Report}
 use Rattle.demands.specs.Logs.{Log, none, _▷_, heardOf, bytesOf, heardIn, numberAfter, takenOf, InBytes, Begins, whole, more}
 use Rattle.demands.specs.Refusals.{Not}
 use Rattle.demands.specs.Histories.{Machine, reportsTo, reportsOf, Among, first, later, Says, isAmong}
-use Rattle.demands.specs.Accounts.{namedBy, bytesNamed, heldIn, InTurn, namedIn}
-use Rattle.demands.specs.Sessions.{Talk, Session, EarlyAt, StrayAt, FirstByte, gapBefore, Early, Stray, replyAt}
+use Rattle.demands.specs.Accounts.{namedBy, bytesNamed, InTurn, namedIn}
+use Rattle.demands.specs.Sessions.{Session, EarlyAt, StrayAt, FirstByte, gapBefore}
 use Rattle.demands.specs.Messages.{ReportsFrame}
 use Rattle.demands.specs.Editions.{reasonAtEnd}
 use Rattle.demands.specs.Damage.{reasonIn, GoesBy, Damaged}

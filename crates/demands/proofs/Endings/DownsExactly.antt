@@ -14,7 +14,6 @@ use lib.ListN.{length, drop, length-drop}
 use Rattle.base.specs.Numbers.{taken}
 use Rattle.base.specs.Reports.{frameReport, failedReport, noReplyReport, downReport, notIdleReport, noReason, wrongLow, idleOver, dropped, restarted}
 use Rattle.base.proofs.Tests.{and-split, by-test}
-use Rattle.base.specs.Choice.{if_then_else_}
 use Rattle.units.specs.Units.{gapOf}
 use Rattle.units.specs.declared.Micros.{Micros}
 use Rattle.timing.specs.Timing.{isPassed}

@@ -12,7 +12,7 @@ use borrow.Author.Tests.{eqb-false}
 use lib.Dec.{eqb, leb}
 use Rattle.base.specs.Choice.{if_then_else_}
 use Rattle.base.specs.Sums.{greatest}
-use Rattle.base.specs.Reports.{damageReport, failedReport, downReport, noReason, brokenOff, closed, wrongForm}
+use Rattle.base.specs.Reports.{damageReport, failedReport, downReport, noReason, closed}
 use Rattle.base.proofs.Tests.{by-test}
 use Rattle.units.specs.Units.{isEarlier}
 use Rattle.units.specs.declared.Micros.{Micros}
@@ -22,9 +22,8 @@ use Rattle.frame.specs.Layout.{formatForm}
 use Rattle.events.specs.Events.{isTester, sameSide}
 use Rattle.events.specs.declared.Side.{Side}
 use Rattle.events.specs.declared.Event.{Event}
-use Rattle.talk.specs.Talk.{begun as opening}
-use Rattle.talk.specs.Talk.{isFirst, testerTurn, isStray, isHasty, unitTurn, turnReason, placeAnnounced, headReason, firstReason, frameReason, begunBy, grown}
-use Rattle.talk.specs.Talk.{partReason, laterReason, withData, endReason, isFree, grownAt}
+use Rattle.talk.specs.Talk.{isFirst, testerTurn, isStray, isHasty, unitTurn, turnReason, placeAnnounced, headReason, firstReason, frameReason, grown}
+use Rattle.talk.specs.Talk.{partReason, laterReason, endReason, isFree}
 use Rattle.talk.specs.declared.Reply.{Reply}
 use Rattle.talk.specs.declared.Part.{Part}
 use Rattle.talk.specs.declared.Part.the-variants.{Target, Source, Length, Data, Sum, Free}
@@ -37,7 +36,7 @@ use Rattle.moves.specs.Moves.{lossReason, reasonAtFirst, isRight}
 use Rattle.moves.specs.declared.Move.{Move}
 use Rattle.moves.proofs.Rules.{Moment, Closes, by-drop, by-address, by-wake-up, Rule, drops}
 use Rattle.moves.proofs.Rules.{rests, ends-right, breaks-off, waited, idled, expires, cuts-off, aborts, leaves, starts-slow, starts-fast, hurries, low}
-use Rattle.moves.proofs.Rules.{cut-right, cut-wrong, cut-held, strays, misses, connects, goes-on, opens, errs, breaks, frames, grows, stops}
+use Rattle.moves.proofs.Rules.{cut-right, cut-wrong, strays, misses, connects, goes-on, opens, errs, breaks, frames, grows, stops}
 use Rattle.reports.specs.Reporting.{namesBytes, reportOf, told, moved}
 use Rattle.reports.specs.declared.Report.{Report}
 use Rattle.reports.specs.declared.Run.{Run}
@@ -50,15 +49,14 @@ use Rattle.demands.specs.Logs.{Log, none, _▷_}
 use Rattle.demands.specs.Histories.{after, reportsTo, Among}
 use Rattle.demands.specs.Each.{Formed}
 use Rattle.demands.proofs.Histories.Holding.{Holds, Names, frame, damage, success, failure, outside, no-reply, left, not-idle, framed-quiet}
-use Rattle.demands.proofs.Histories.Tiling.{HoldsIn, rule-names, held-walk, Fair}
+use Rattle.demands.proofs.Histories.Tiling.{HoldsIn, rule-names, held-walk}
 use Rattle.demands.proofs.Histories.Invariant.{kept-of}
 use Rattle.demands.proofs.Connecting.Judging.{misjudged}
 use Rattle.demands.proofs.Moves.ReportsInList.{Each, each-none, each-both, tells-each}
 use Rattle.demands.proofs.Histories.ReportsMade.{reports-made, taken-by-report}
 use Rattle.demands.specs.Ours.{ours}
 use Rattle.keys.specs.Editions.{isCar, editionOf}
-use Rattle.talk.specs.Cars.{carReason, carBegun, carGrown, isHeadByte, carEmpty, isCarSize, countedUp}
-use Rattle.keys.specs.declared.Pair.{Pair}
+use Rattle.talk.specs.Cars.{carReason, isCarSize}
 
 -- ---- the reasons that a report has, by its number
 abbrev least : ℕ → ℕ
@@ -156,12 +154,12 @@ closes-for (by-drop k) = (omega arith, omega arith)
 closes-for (by-address k) = (omega arith, omega arith)
 closes-for (by-wake-up k) = (omega arith, omega arith)
 
--- ---- damage that is being skipped has a reason; and of a message held, the reason that it would get is one too, if it has any
+-- ---- damage that is being skipped has a reason
 abbrev WordedIn : State → ℕ → Type 0
 WordedIn Down why = Unit {0}
 WordedIn Starting why = Unit {0}
 WordedIn Quiet why = Unit {0}
-WordedIn Held why = why ≤ 9
+WordedIn Held why = Unit {0}
 WordedIn Damage why = Lost why
 
 abbrev Worded : Phase → Type 0
@@ -175,30 +173,13 @@ loss-in Quiet reason why o w k = absurd (false≢true o)
 loss-in Held reason why o w k = k
 loss-in Damage reason why o w k = w
 
--- what a message held would be damage for
-car-most : (m : Message) (v : ℕ) → carReason m v ≤ 9
-unfolding carReason
-car-most m v =
-    pick (eqb (m .why) wrongForm || not (isHeadByte (m .side) (m .at) v)) (omega arith)
-    (pick (not (isCarSize (countedUp (m .at)))) (omega arith) (pick (eqb v (m .sum)) (omega arith) (omega arith)))
-
-begun-why : (pair : Pair) (side : Side) (v : ℕ) → begunBy pair side v .why ≤ 9
-unfolding begunBy opening carBegun carGrown
-begun-why pair side v =
-    by-test (λ (m : Message). m .why ≤ 9) (isCar (editionOf pair)) {x = carBegun side v} {y = opening side v} (λ _. car-most (carEmpty side) v) (λ _. omega arith)
-
-grown-why : (part : Part) (m : Message) (v : ℕ) → m .why ≤ 9 → grownAt part m v .why ≤ 9
-unfolding withData carGrown
-grown-why Target m v w = w
-grown-why Source m v w = w
-grown-why Length m v w = w
-grown-why Data m v w = w
-grown-why Sum m v w = w
-grown-why Free m v w = car-most m v
-
-end-most : (p : Phase) → p .message .why ≤ 9 → endReason (p .message) ≤ 9
-unfolding endReason
-end-most p w = pick (isFree (p .message .part)) w (omega arith)
+-- what a message held is damage for as it ends
+end-most : (m : Message) → endReason m ≤ 9
+unfolding endReason carReason
+end-most m =
+    pick (isFree (m .part))
+    (pick (not (eqb (m .why) noReason)) (omega arith) (pick (not (isCarSize (m .at))) (omega arith) (pick (eqb (m .length) (m .sum)) (omega arith) (omega arith))))
+    (omega arith)
 
 framed-worded : (p : Phase) → Worded (framed p)
 framed-worded p = subst (λ (x : State). WordedIn x (framed p .message .why)) (sym (framed-quiet p)) tt
@@ -213,7 +194,7 @@ ended-loss p o r w = by-state (p .state) o r w
     by-state Down o r w = absurd (false≢true o)
     by-state Starting o r w = absurd (false≢true o)
     by-state Quiet o r w = absurd (false≢true o)
-    by-state Held o r w = lost (endReason (p .message)) r (end-most p w)
+    by-state Held o r w = lost (endReason (p .message)) r (end-most (p .message))
     by-state Damage o r w = w
 
 -- ---- EACH RULE: the reason of its report, and the damage that it leaves
@@ -235,19 +216,17 @@ rule-fits mark e p k m (starts-fast a i l) w = ((omega arith, omega arith), tt)
 rule-fits mark e p k m (hurries s i) w = ((omega arith, omega arith), tt)
 rule-fits mark e p k m (low a i l) w = ((omega arith, omega arith), tt)
 rule-fits mark e p k m (cut-right c r) w = ((omega arith, omega arith), framed-worded p)
-rule-fits mark e p k m (cut-wrong c r) w =
-    let h = cut-held mark e p c in
-    (lost _ r (end-most p (subst (λ (st : State). WordedIn st (p .message .why)) h w)), tt)
+rule-fits mark e p k m (cut-wrong c r) w = (lost _ r (end-most (p .message)), tt)
 rule-fits mark e p k m (strays d) w = ((omega arith, omega arith), tt)
 rule-fits mark e p k m (misses s v) w =
     (misjudged (λ (j : ℕ). (1 ≤ j) × (j ≤ 6)) (omega arith, omega arith) (omega arith, omega arith) (omega arith, omega arith) _ _ _ _ v, tt)
 rule-fits mark e p k m (connects s v l) w = ((omega arith, omega arith), tt)
 rule-fits mark e p k m (goes-on s v l) w = ((omega arith, omega arith), tt)
-rule-fits mark e p k m (opens q r) w = ((omega arith, omega arith), begun-why (p .start .pair) _ _)
+rule-fits mark e p k m (opens q r) w = ((omega arith, omega arith), tt)
 rule-fits mark e p k m (errs q r) w = ((omega arith, omega arith), lost _ r (first-most p _ _ _))
 rule-fits mark e p k m (breaks h r) w = ((omega arith, omega arith), lost _ r (later-most (p .message) _ _))
 rule-fits mark e p k m (frames h r s) w = ((omega arith, omega arith), framed-worded p)
-rule-fits mark e p k m (grows h r s) w = ((omega arith, omega arith), grown-why (p .message .part) (p .message) _ (subst (λ (st : State). WordedIn st (p .message .why)) h w))
+rule-fits mark e p k m (grows h r s) w = ((omega arith, omega arith), tt)
 rule-fits mark e p k m (stops q r) w = ((omega arith, omega arith), tt)
 
 moved-time : (r : Run) (m : Move) → moved r m .time ≡ r .time

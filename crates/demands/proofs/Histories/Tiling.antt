@@ -22,7 +22,7 @@ use Rattle.phases.specs.Phases.{isStarting}
 use Rattle.phases.specs.declared.Phase.{Phase}
 use Rattle.moves.specs.Moves.{makes, beforeByte}
 use Rattle.moves.specs.declared.Move.{Move}
-use Rattle.moves.proofs.Rules.{Moment, at-silence, at-closing, at-hearing, at-byte, at-end, next as later, by-address, Rule}
+use Rattle.moves.proofs.Rules.{Moment, at-silence, at-hearing, at-byte, at-end, next as later, by-address, Rule}
 use Rattle.reports.specs.Reporting.{namesBytes, reportOf, told, moved}
 use Rattle.reports.specs.Counting.{share}
 use Rattle.reports.specs.declared.Report.{Report}

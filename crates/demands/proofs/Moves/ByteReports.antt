@@ -20,7 +20,7 @@ use Rattle.phases.proofs.StateTests.{is-quiet, open-unquiet, held-open}
 use Rattle.moves.specs.Moves.{still, reasonAtFirst, afterByte, afterStop, isCutIn, beforeByte}
 use Rattle.moves.specs.declared.Move.{Move}
 use Rattle.moves.proofs.Rules.{at-byte, Rule, opens, errs}
-use Rattle.reports.specs.Reporting.{namesBytes, told, moved, noReport}
+use Rattle.reports.specs.Reporting.{namesBytes, told, moved}
 use Rattle.reports.specs.declared.Run.{Run}
 use Rattle.link.specs.Handling.{hearing, byteHeard}
 use Rattle.link.specs.Telling.{tells, byteTells}

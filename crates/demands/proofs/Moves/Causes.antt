@@ -11,7 +11,7 @@ use native.Mathlib.Omega.{arith}
 use borrow.Author.Tests.{eqb-true, eq-eqb}
 use lib.Dec.{eqb}
 use Rattle.base.specs.Reports.{frameReport, damageReport, connectedReport, failedReport, outsideReport, noReplyReport, downReport, notIdleReport}
-use Rattle.base.specs.Reports.{noReason, brokenOff, closed, windowOver, wrongLow, wrongSide, tooEarly, misfit, stopped, idleOver, dropped, restarted}
+use Rattle.base.specs.Reports.{noReason, closed, windowOver, wrongLow, wrongSide, tooEarly, misfit, stopped, idleOver, dropped, restarted}
 use Rattle.base.proofs.Tests.{by-test}
 use Rattle.units.specs.Units.{micros, gapOf}
 use Rattle.units.specs.declared.Micros.{Micros}

@@ -2,12 +2,12 @@
 -- changes; what the link keeps of a message says it is a car's; and it is judged, as its bytes come, as the list of its bytes is: by its head, its size and its
 -- sum (`judged-by-bytes`).
 -- Assumes nothing.
-use Prim.Native.Nat.{ℕ, zero, suc, _+_, _%_, _≤_, _<_}
+use Prim.Native.Nat.{ℕ, zero, suc, _+_, _%_, _≤_}
 use mathlib.Core.Bool.{Bool, true, false, not, _&&_, _||_, false≢true}
-use mathlib.Core.List.{List, [], _∷_, _++_}
+use mathlib.Core.List.{List, [], _∷_}
 use mathlib.Core.Path.{_≡_, _∙_, refl, sym, ap, subst}
 use native.Mathlib.Omega.{arith}
-use borrow.Author.Tests.{eqb-true, ne-eqb, eq-eqb, le-leb, lt-leb, lt-ltb, le-ltb, leb-true, leb-false, ltb-true, ltb-false}
+use borrow.Author.Tests.{eqb-true, ne-eqb, lt-leb, lt-ltb, leb-true, leb-false, ltb-true, ltb-false}
 use lib.Dec.{eqb, leb, ltb}
 use lib.ListN.{length, drop, getD}
 use Rattle.base.specs.Choice.{if_then_else_}
@@ -122,14 +122,15 @@ sum-no-car pair side b v vs m g s = by-car (ofCar pair) refl
     by-car false c = refl
 
 -- ---- judged by its bytes
--- a message has heard k bytes that sum up to n; its head is wrong or not
-record Heard (m : Message) (side : Side) (k n : ℕ) (bad : Bool) : Type 0 where
+-- a message has heard k bytes, of which all but the last sum up to n; its head is wrong or not
+record Heard (m : Message) (side : Side) (k n last : ℕ) (bad : Bool) : Type 0 where
   free : m .part ≡ Free
   side-is : m .side ≡ side
   few : k ≤ 12 → m .at ≡ k
   many : 12 ≤ k → m .at ≡ 12
+  last-is : m .length ≡ last
   sum-is : m .sum ≡ n % 256
-  bad-is : eqb (m .why) wrongForm ≡ bad
+  bad-is : not (eqb (m .why) noReason) ≡ bad
 
 -- ---- on tests
 and-true : (b : Bool) → (b && true) ≡ b
@@ -203,12 +204,6 @@ agrees-more (suc k) (x ∷ h) b c bs = agrees-more k h b c bs
 abbrev verdict : Bool → Bool → Bool → ℕ
 verdict bad sized sums = if bad then wrongForm else if not sized then wrongLength else if sums then noReason else wrongSum
 
-verdict-bad : (bad sized sums : Bool) → eqb (verdict bad sized sums) wrongForm ≡ bad
-verdict-bad true sized sums = refl
-verdict-bad false false sums = refl
-verdict-bad false true true = refl
-verdict-bad false true false = refl
-
 either-bad : (a b c : Bool) → ((a || not b) || not c) ≡ (a || not (b && c))
 either-bad true b c = refl
 either-bad false true c = refl
@@ -221,17 +216,13 @@ and-false false = refl
 plus-one : (k : ℕ) → k + 1 ≡ suc k
 plus-one k = omega arith
 
-sized-when : (t : Bool) (k at : ℕ) → ltb k 12 ≡ t → (k ≤ 12 → at ≡ k) → (12 ≤ k → at ≡ 12)
-    → isCarSize (countedUp at) ≡ (leb 5 (suc k) && leb (suc k) 11)
-unfolding isCarSize countedUp
-sized-when true k at e few many =
-    let h = ltb-true k 12 e in
-    ap (λ (x : ℕ). isCarSize (countedUp x)) (few (omega arith))
-    ∙ ap (λ (t : Bool). isCarSize (if t then k + 1 else k)) e
-    ∙ ap isCarSize (plus-one k)
+-- so many bytes as it has counted are as many as there are, up to 12
+sized-when : (t : Bool) (k at : ℕ) → leb k 12 ≡ t → (k ≤ 12 → at ≡ k) → (12 ≤ k → at ≡ 12) → isCarSize at ≡ (leb 5 k && leb k 11)
+unfolding isCarSize
+sized-when true k at e few many = ap isCarSize (few (leb-true k 12 e))
 sized-when false k at e few many =
-    let h = ltb-false k 12 e in
-    ap (λ (x : ℕ). isCarSize (countedUp x)) (many h) ∙ sym (ap (λ (t : Bool). leb 5 (suc k) && t) (lt-leb (suc k) 11 (omega arith)) ∙ and-false (leb 5 (suc k)))
+    let h = leb-false k 12 e in
+    ap isCarSize (many (omega arith)) ∙ sym (ap (λ (t : Bool). leb 5 k && t) (lt-leb k 11 (omega arith)) ∙ and-false (leb 5 k))
 
 shift : (k n : ℕ) → suc k + n ≡ k + suc n
 shift k n = omega arith
@@ -253,31 +244,36 @@ up-when true k at e few many h =
     ap countedUp a
 up-when false k at e few many h = ap countedUp (many (ltb-false k 12 e))
 
-head-is : (m : Message) (side : Side) (k n : ℕ) (bad : Bool) (v : ℕ) → Heard m side k n bad
+head-is : (m : Message) (side : Side) (k n last : ℕ) (bad : Bool) (v : ℕ) → Heard m side k n last bad
     → isHeadByte (m .side) (m .at) v ≡ agrees (drop k (headOf side)) (v ∷ [])
 unfolding isHeadByte headOf
-head-is m side k n bad v h =
+head-is m side k n last bad v h =
     ap (λ (x : Side). isHeadByte x (m .at) v) (h .side-is) ∙ head-when (leb k 12) (isTester side) k (m .at) v refl (h .few) (h .many)
 
--- the reason so far
-reason-is : (m : Message) (side : Side) (k n : ℕ) (bad : Bool) (v : ℕ) → Heard m side k n bad
-    → carReason m v ≡ verdict (bad || not (agrees (drop k (headOf side)) (v ∷ []))) (leb 5 (suc k) && leb (suc k) 11) (eqb v (n % 256))
-unfolding carReason
-reason-is m side k n bad v h =
-    rw (h .bad-is, head-is m side k n bad v h, sized-when (ltb k 12) k (m .at) refl (h .few) (h .many), h .sum-is) refl
+-- its head is wrong, with one byte more
+more-bad : (b : Bool) (why : ℕ) (bad : Bool) → not (eqb why noReason) ≡ bad → not (eqb (if b then why else wrongForm) noReason) ≡ (bad || not b)
+more-bad true why bad h = h ∙ sym (or-false bad)
+more-bad false why bad h = sym (or-true bad)
 
-heard-more : (m : Message) (side : Side) (k n : ℕ) (bad : Bool) (v : ℕ) → Heard m side k n bad
-    → Heard (carGrown m v) side (suc k) (n + v) (bad || not (agrees (drop k (headOf side)) (v ∷ [])))
+heard-more : (m : Message) (side : Side) (k n last : ℕ) (bad : Bool) (v : ℕ) → Heard m side k n last bad
+    → Heard (carGrown m v) side (suc k) (n + last) v (bad || not (agrees (drop k (headOf side)) (v ∷ [])))
 unfolding carGrown byteSum
-heard-more m side k n bad v h = record {
+heard-more m side k n last bad v h = record {
   free = refl;
   side-is = h .side-is;
   few = up-few k (m .at) (h .few);
   many = up-when (ltb k 12) k (m .at) refl (h .few) (h .many);
-  sum-is = more-sum (m .sum) n v (h .sum-is);
-  bad-is = ap (λ (w : ℕ). eqb w wrongForm) (reason-is m side k n bad v h)
-      ∙ verdict-bad _ (leb 5 (suc k) && leb (suc k) 11) (eqb v (n % 256));
+  last-is = refl;
+  sum-is = ap (λ (x : ℕ). (m .sum + x) % 256) (h .last-is) ∙ more-sum (m .sum) n last (h .sum-is);
+  bad-is = more-bad (isHeadByte (m .side) (m .at) v) (m .why) bad (h .bad-is)
+      ∙ ap (λ (t : Bool). bad || not t) (head-is m side k n last bad v h);
 }
+
+-- the reason so far
+reason-is : (m : Message) (side : Side) (k n last : ℕ) (bad : Bool) → Heard m side k n last bad
+    → carReason m ≡ verdict bad (leb 5 k && leb k 11) (eqb last (n % 256))
+unfolding carReason
+reason-is m side k n last bad h = rw (h .bad-is, sized-when (leb k 12) k (m .at) refl (h .few) (h .many), h .last-is, h .sum-is) refl
 
 -- a car's message grows as such
 free-grown : (m : Message) (v : ℕ) → m .part ≡ Free → grown m v ≡ carGrown m v
@@ -285,31 +281,31 @@ unfolding grown
 free-grown m v q = rw q refl
 
 -- AFTER ALL BYTES
-heard-why : (m : Message) (side : Side) (k n : ℕ) (bad : Bool) (b : ℕ) (bs : List ℕ) → Heard m side k n bad
-    → grownBy m (b ∷ bs) .why
-    ≡ verdict (bad || not (agrees (drop k (headOf side)) (b ∷ bs))) (leb 5 (k + length (b ∷ bs)) && leb (k + length (b ∷ bs)) 11) (sumsUp n (b ∷ bs))
-unfolding grownBy carGrown sumsUp
-heard-why m side k n bad b [] h =
-    ap (λ (x : Message). x .why) (free-grown m b (h .free))
-    ∙ reason-is m side k n bad b h
-    ∙ ap (λ (x : ℕ). verdict (bad || not (agrees (drop k (headOf side)) (b ∷ []))) (leb 5 x && leb x 11) (eqb b (n % 256))) (sym (plus-one k))
-heard-why m side k n bad b (c ∷ bs) h =
-    ap (λ (x : Message). grownBy x (c ∷ bs) .why) (free-grown m b (h .free))
-    ∙ heard-why (carGrown m b) side (suc k) (n + b) (bad || not (agrees (drop k (headOf side)) (b ∷ []))) c bs (heard-more m side k n bad b h)
-    ∙ ap (λ (t : Bool). verdict t (leb 5 (suc k + length (c ∷ bs)) && leb (suc k + length (c ∷ bs)) 11) (sumsUp (n + b) (c ∷ bs)))
+heard-why : (m : Message) (side : Side) (k n last : ℕ) (bad : Bool) (b : ℕ) (bs : List ℕ) → Heard m side k n last bad
+    → carReason (grownBy m (b ∷ bs))
+    ≡ verdict (bad || not (agrees (drop k (headOf side)) (b ∷ bs))) (leb 5 (k + length (b ∷ bs)) && leb (k + length (b ∷ bs)) 11) (sumsUp (n + last) (b ∷ bs))
+unfolding grownBy sumsUp
+heard-why m side k n last bad b [] h =
+    ap carReason (free-grown m b (h .free))
+    ∙ reason-is (carGrown m b) side (suc k) (n + last) b _ (heard-more m side k n last bad b h)
+    ∙ ap (λ (x : ℕ). verdict (bad || not (agrees (drop k (headOf side)) (b ∷ []))) (leb 5 x && leb x 11) (eqb b ((n + last) % 256))) (sym (plus-one k))
+heard-why m side k n last bad b (c ∷ bs) h =
+    ap (λ (x : Message). carReason (grownBy x (c ∷ bs))) (free-grown m b (h .free))
+    ∙ heard-why (carGrown m b) side (suc k) (n + last) b (bad || not (agrees (drop k (headOf side)) (b ∷ []))) c bs (heard-more m side k n last bad b h)
+    ∙ ap (λ (t : Bool). verdict t (leb 5 (suc k + length (c ∷ bs)) && leb (suc k + length (c ∷ bs)) 11) (sumsUp ((n + last) + b) (c ∷ bs)))
     (either-bad bad (agrees (drop k (headOf side)) (b ∷ [])) (agrees (drop (suc k) (headOf side)) (c ∷ bs)) ∙ ap (λ (t : Bool). bad || not t) (sym (agrees-more k (headOf side) b c bs)))
-    ∙ ap (λ (x : ℕ). verdict (bad || not (agrees (drop k (headOf side)) (b ∷ c ∷ bs))) (leb 5 x && leb x 11) (sumsUp (n + b) (c ∷ bs)))
+    ∙ ap (λ (x : ℕ). verdict (bad || not (agrees (drop k (headOf side)) (b ∷ c ∷ bs))) (leb 5 x && leb x 11) (sumsUp ((n + last) + b) (c ∷ bs)))
     (shift k (length (c ∷ bs)))
 
 from-zero : (n : ℕ) → 0 + n ≡ n
 from-zero n = omega arith
 
 -- A CAR'S MESSAGE IS JUDGED BY ITS BYTES
-pub judged-by-bytes : (side : Side) (v : ℕ) (vs : List ℕ) → grownBy (carBegun side v) vs .why ≡ carFault side (v ∷ vs)
+pub judged-by-bytes : (side : Side) (v : ℕ) (vs : List ℕ) → carReason (grownBy (carBegun side v) vs) ≡ carFault side (v ∷ vs)
 unfolding carFault carBegun grownBy grown
 judged-by-bytes side v vs =
-    heard-why (carEmpty side) side 0 0 false v vs
-    (record { free = refl; side-is = refl; few = λ l. refl; many = λ l. absurd (omega arith); sum-is = refl; bad-is = refl })
+    heard-why (carEmpty side) side 0 0 0 false v vs
+    (record { free = refl; side-is = refl; few = λ l. refl; many = λ l. absurd (omega arith); last-is = refl; sum-is = refl; bad-is = refl })
     ∙ ap (λ (x : ℕ). verdict (not (agrees (headOf side) (v ∷ vs))) (leb 5 x && leb x 11) (sumsUp 0 (v ∷ vs))) (from-zero (length (v ∷ vs)))
 
 -- and so it is where the link ends it
@@ -318,8 +314,8 @@ pub car-verdict : (pair : Pair) (side : Side) (v : ℕ) (vs : List ℕ) (m : Mes
 unfolding begunBy endReason isFree
 car-verdict pair side v vs m g c =
     rw (ap isFree (car-blank pair side side v vs m g c .part))
-    (ap (λ (x : Message). x .why) (gone-by side (begunBy pair side v) m vs g)
-    ∙ ap (λ (b : Bool). grownBy (if b then carBegun side v else begun side v) vs .why) c
+    (ap carReason (gone-by side (begunBy pair side v) m vs g)
+    ∙ ap (λ (b : Bool). carReason (grownBy (if b then carBegun side v else begun side v) vs)) c
     ∙ judged-by-bytes side v vs)
 
 -- the reason of a message that ends is neither 3 nor 4
@@ -337,9 +333,9 @@ pub end-elsewhere : (pair : Pair) (side : Side) (v : ℕ) (vs : List ℕ) (m : M
 unfolding endReason
 end-elsewhere pair side v vs m g = by-free (isFree (m .part)) refl
   where
-    by-free : (b : Bool) → isFree (m .part) ≡ b → Elsewhere (if b then m .why else brokenOff)
+    by-free : (b : Bool) → isFree (m .part) ≡ b → Elsewhere (if b then carReason m else brokenOff)
     by-free true f =
         let c = free-car pair side side v vs m g f in
-        let q : m .why ≡ carFault side (v ∷ vs) = sym (rw f refl) ∙ car-verdict pair side v vs m g c in
+        let q : carReason m ≡ carFault side (v ∷ vs) = sym (rw f refl) ∙ car-verdict pair side v vs m g c in
         subst Elsewhere (sym q) (fault-elsewhere side (v ∷ vs))
     by-free false f = (λ z. omega arith, λ z. omega arith)

@@ -29,7 +29,7 @@ use Rattle.events.specs.declared.Event.{Event}
 use Rattle.talk.specs.Talk.{isFirst, endReason}
 use Rattle.talk.specs.declared.Reply.{Reply}
 use Rattle.talk.specs.declared.Reply.the-variants.{Never, First}
-use Rattle.phases.specs.Phases.{isQuiet, isHeld, isOpen, talking, settled}
+use Rattle.phases.specs.Phases.{isQuiet, isOpen, talking, settled}
 use Rattle.phases.specs.declared.State.the-variants.{Held}
 use Rattle.phases.specs.declared.Phase.{Phase}
 use Rattle.phases.proofs.StateTests.{open-or, quiet-shut, down-is, open-unquiet, held-open, held-is as held-is-state}

@@ -32,7 +32,6 @@ use Rattle.talk.specs.Talk.{headReason, firstReason, begun, begunBy, partReason
 use Rattle.talk.specs.Talk.{asksCodes, ifAllowed, requestAfter, isStopped}
 use Rattle.talk.specs.declared.Part.{Part}
 use Rattle.talk.specs.declared.Part.the-variants.{Target, Source, Length, Data, Sum, Free}
-use Rattle.talk.specs.declared.Reply.the-variants.{First, Further}
 use Rattle.talk.specs.declared.Request.{Request}
 use Rattle.talk.specs.declared.Request.the-variants.{Ordinary, Stop, OwnTiming, NewTiming}
 use Rattle.talk.specs.declared.Message.{Message}

@@ -11,5 +11,6 @@ end-reason-spec =
     tie.close
     (tie.spec
     (λ c κs. search needs)
-    (λ c. rw (← (c .before .is-free .ensures), c .if1 .taken))
+    (λ c κs. search needs)
+    (λ c. rw (c .car-reason .ensures, ← (c .before .before .is-free .ensures), c .before .if1 .taken))
     (λ c. rw (← (c .before .is-free .ensures), c .if1 .left)))

@@ -1,9 +1,7 @@
--- `link::stepping::pass` meets its contract: where no time runs out by the law of `Ways`, else by the four rules in their order.
+-- `link::stepping::pass` meets its contract: the four rules, in their order.
 -- Assumes nothing.
-use mathlib.Core.Path.{_∙_, sym}
 use borrow.Author.Needs.{needs}
 use Rattle.link.specs.Handling.{passed}
-use Rattle.link.proofs.Ways.{passed-calm}
 use Rattle.link.proofs.stepping.pass.Statement.{statement}
 use Rattle.link.proofs.stepping.pass.Tie as tie
 
@@ -12,8 +10,6 @@ unfolding passed
 pass-spec =
     tie.close
     (tie.spec
-    (λ c κs. search needs)
-    (λ c. sym (passed-calm _ _ _ (sym (c .before .is-calm .ensures) ∙ c .if1 .taken)))
     (λ c κs. search needs)
     (λ c κs. search needs)
     (λ c κs. search needs)

@@ -13,4 +13,5 @@ grow-car-spec =
     (λ c κs. search needs)
     (λ c κs. search needs)
     (λ c κs. search needs)
-    (λ c. rw (c .car-reason .ensures, ← (c .before .before .count-up .ensures), ← (c .before .byte-sum .ensures))))
+    (λ c κs. search needs)
+    (λ c. rw (c .either .ensures, ← (c .before .before .before .is-head-byte .ensures), ← (c .before .before .count-up .ensures), ← (c .before .byte-sum .ensures))))
