@@ -72,26 +72,23 @@ fn count_one(c: Counts, x: Report) -> Counts
 fn count_all(c: Counts, rs: Reports) -> Counts
     ensures { λ r. ⌜ r ≡ countedAll c (listed rs) ⌝ }
 {
-    let x1 = rs.a;
-    let x2 = rs.b;
-    let x3 = rs.c;
-    let x4 = rs.d;
+    let w = rs.a;
+    let x = rs.b;
+    let y = rs.c;
+    let z = rs.d;
     if rs.n == 0 {
         return c;
     }
-    let c1 = count_one(c, x1);
     if rs.n == 1 {
-        return c1;
+        return count_one(c, w);
     }
-    let c2 = count_one(c1, x2);
     if rs.n == 2 {
-        return c2;
+        return count_one(count_one(c, w), x);
     }
-    let c3 = count_one(c2, x3);
     if rs.n == 3 {
-        return c3;
+        return count_one(count_one(count_one(c, w), x), y);
     }
-    count_one(c3, x4)
+    count_one(count_one(count_one(count_one(c, w), x), y), z)
 }
 
 // A byte is heard, or none.
