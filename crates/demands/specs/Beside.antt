@@ -81,8 +81,8 @@ pub record Beside : Type 0 where
   -- Our rules on messages, byte by byte, end one in a frame exactly if `read` takes its bytes under the same key bytes.
   pub messages : (kb1 kb2 : ℕ) (side : Side) (s : List ℕ) → goodPair kb1 kb2 ≡ true → ((i : ℕ) → getD s i 0 < 256)
       → isMessage kb1 side s ≡ eqb (readOf kb1 kb2 s .no) taken
-  -- A car's message is judged by what the link keeps of it (its last byte, how many there are, the sum of those before, whether the head is wrong): the reason that
-  -- it is damage for, if it ends with its last byte so far, is the fault of its bytes.
+  -- A car's message is judged by what the link keeps of it (its last byte, how many there are, the sum of those before, whether the head is wrong): the
+  -- reason that it is damage for, if it ends with its last byte so far, is the fault of its bytes.
   pub car-messages : (side : Side) (v : ℕ) (vs : List ℕ) → carReason (grownBy (carBegun side v) vs) ≡ carFault side (v ∷ vs)
   -- The windows of a car's link are its set's and never change, and no frame asks for more than a reply: 82 and 83 mean nothing there.
   pub car-links : (es : Log) → isConnected (after ours es .link .phase .state) ≡ true → ofCar (after ours es .link .phase .start .pair) ≡ true

@@ -1,5 +1,5 @@
--- WHAT THE DEMANDS SAY OF A CAR'S SESSION and no field of theirs says in one sentence (document 02, "Five"; sources: ISO 9141-2). It follows from the words of the
--- demands alone, and so holds of any link that meets them. Proved in proofs/Cars.antt.
+-- WHAT THE DEMANDS SAY OF A CAR'S SESSION and no field of theirs says in one sentence (document 02, "Five"; sources: ISO 9141-2). It follows from the words
+-- of the demands alone, and so holds of any link that meets them. Proved in proofs/Cars.antt.
 -- Assumes nothing.
 use Prim.Native.Nat.{ℕ, _+_, _≤_}
 use mathlib.Core.Bool.{true}
@@ -31,7 +31,7 @@ pub record OfCars (m : Machine) : Type 0 where
   -- ".. mode, form and length place ..": no report 2 has reason 5, and none has reason 1, for a message that ends is judged.
   pub never-so : (es : Log) (e : Event) (r : Report) → r .number ≡ damageReport → (d : Damaged m es e r) → ofCar (d .turns .first .talk .pair) ≡ true
       → Not (r .reason ≡ brokenOff) × Not (r .reason ≡ modeOne)
-  -- TWO MESSAGES TAKEN FOR ONE. "There is no length": where no more than 20 ms lie between two messages of one side, each of them right, they are one message, and
-  -- it is right too exactly if it is not too long and the first one's checksum is 00 or 80.
+  -- TWO MESSAGES TAKEN FOR ONE. "There is no length": where no more than 20 ms lie between two messages of one side, each of them right, they are one
+  -- message, and it is right too exactly if it is not too long and the first one's checksum is 00 or 80.
   pub two-as-one : (side : Side) (a b : List ℕ) (sum : ℕ) → carFault side (a ++ (sum ∷ [])) ≡ noReason → carFault side b ≡ noReason
       → (carFault side ((a ++ (sum ∷ [])) ++ b) ≡ noReason) ↔ ((length (a ++ (sum ∷ [])) + length b ≤ 11) × ((sum ≡ 0x00) ⊎ (sum ≡ 0x80)))

@@ -77,13 +77,13 @@ reasonIn pair bs =
     if ofCar pair then (if ofOneSide bs then noReason else otherSide) else
     reasonBehind (pair .kb1) [] bs
 
--- a report's reason, where its bytes give the reason k, and the reason atEnd if they end as a message, and from the mark to the start of the report's event e there
--- is such a gap
+-- a report's reason, where its bytes give the reason k, and the reason atEnd if they end as a message, and from the mark to the start of the report's event e
+-- there is such a gap
 pub record GoesBy (k atEnd : ℕ) (e : Event) (gap : Micros) (r : Report) : Type 0 where
   -- "With damage being skipped: report 2, its reason.", "damage with its reason"
   pub wrong : Not (k ≡ noReason) → r .reason ≡ k
-  -- "20 ms passed since the mark with a message held: report 2, reason 1."; a car's message is judged then, and a unit's byte that ends it has it "judged as after
-  -- the gap"
+  -- "20 ms passed since the mark with a message held: report 2, reason 1."; a car's message is judged then, and a unit's byte that ends it has it "judged as
+  -- after the gap"
   pub ended : k ≡ noReason → (20_000 < gap .0) ⊎ (e .kind ≡ Byte) → r .reason ≡ atEnd
   -- "A, W or D then close what is open: a held message as report 2 reason 2"
   pub closed : k ≡ noReason → Not (20_000 < gap .0) → Not (e .kind ≡ Byte) → r .reason ≡ closed

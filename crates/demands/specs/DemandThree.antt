@@ -16,7 +16,7 @@ use Rattle.demands.specs.Accounts.{countsOf, added, heldIn, Accounted}
 pub record DemandThree (m : Machine) : Type 0 where
   -- EVERY BYTE IS ACCOUNTED FOR, after any events. The bytes that the reports name, in order, and then those held, are the bytes heard, each once.
   -- None is named before it is heard, and each report's index is the number of bytes named before it. All seven counts are those worked out from the
-  -- reports. The bytes that the link says it holds are those heard and not named. An event makes at most three reports. (`Accounted`, in Accounts.antt, has
+  -- reports. The bytes that the link says it holds are those heard and not named. An event makes at most four reports. (`Accounted`, in Accounts.antt, has
   -- a field for each of these.)
   pub accounted : (es : Log) → Accounted m es
   -- THE COUNTS ARE BROUGHT UP TO DATE WHERE THEY ARE LENT, whatever they were: after any events, one that is taken adds to each count what its byte, if it is

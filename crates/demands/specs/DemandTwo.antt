@@ -89,12 +89,13 @@ pub record DemandTwo (m : Machine) : Type 0 where
   -- A session of the history lasts from a report 3 until a report 7, with the key bytes among the bytes that the report 3 names. Its windows are KB1's set,
   -- the allowed codes of the latest tester frame, or as before, as `windowsIn` reads it off the session's frames; the reply that may come is the one that its
   -- last report leaves.
-  -- Each report 1 is made in a session and names bytes that are a frame under the session's key bytes: such as `read` takes, or a car's message without a fault.
+  -- Each report 1 is made in a session and names bytes that are a frame under the session's key bytes: such as `read` takes, or a car's message without a
+  -- fault.
   pub frames-read : (es : Log) (e : Event) (r : Report) → InBytes (es ▷ e) → Among r (reportsTo m es e) → r .number ≡ frameReport → Reads m es e r
-  -- And the other way round: a report 1 names these bytes exactly if the event is the byte that ends a message of the session in them, or, of a car, if the message
-  -- is these bytes and over. A message goes from a first byte that is neither early nor stray over bytes of the same side, no more than 20 ms apart, until `read`
-  -- takes what was heard of it (a car's goes on). Which byte is a first one, and whether it is early or stray, is said by the events before it and the reports
-  -- of bytes before it, and by nothing that is reported of it.
+  -- And the other way round: a report 1 names these bytes exactly if the event is the byte that ends a message of the session in them, or, of a car, if the
+  -- message is these bytes and over. A message goes from a first byte that is neither early nor stray over bytes of the same side, no more than 20 ms apart,
+  -- until `read` takes what was heard of it (a car's goes on). Which byte is a first one, and whether it is early or stray, is said by the events before it
+  -- and the reports of bytes before it, and by nothing that is reported of it.
   pub frames-exactly : (es : Log) (e : Event) (bytes : List ℕ) → InBytes (es ▷ e)
       → ReportsFrame (heardIn (es ▷ e)) (reportsTo m es e) bytes ↔ EndsInFrame m es e bytes
   -- ---- d. DAMAGE, STRAY AND EARLY
@@ -116,8 +117,8 @@ pub record DemandTwo (m : Machine) : Type 0 where
   pub damage-names : (es : Log) (e : Event) (r : Report) → Among r (reportsTo m es e) → r .number ≡ damageReport
       → (r .bytes ≡ heldIn m es) × (r .first + r .bytes ≡ length (heardIn es))
   -- Its reason is 3 or 4 exactly if its first byte was early or stray. Where it was neither, the reason is the one that the bytes named give under the
-  -- session's key bytes, by the first of them that fails (5, 6 or 8 the first byte, 7, 8 or 9 a later one; of a car only 7); and where none fails, a message was
-  -- held, and the reason is 1 (of a car 6, 8 or 9, its fault) if 20 ms have passed since the mark or a byte ends it, and else 2.
+  -- session's key bytes, by the first of them that fails (5, 6 or 8 the first byte, 7, 8 or 9 a later one; of a car only 7); and where none fails, a message
+  -- was held, and the reason is 1 (of a car 6, 8 or 9, its fault) if 20 ms have passed since the mark or a byte ends it, and else 2.
   pub damage-reasons : (es : Log) (e : Event) (r : Report) → InBytes (es ▷ e) → Among r (reportsTo m es e) → r .number ≡ damageReport
       → Damaged m es e r
   -- Outside a session there is neither a report 1 nor a report 2.

@@ -1,6 +1,6 @@
--- Messages of a session, told by the history: from their first byte on, until `read` takes their bytes as a frame (document 01, "Connected."), or until they are
--- over (document 02, "Five"). What `read` refuses of them, however they go on, is no condition here: "mode 01 (5), form not announced .. (6), a length place KB1
--- doesn't announce (8)", "length byte 0 (8), wrong checksum (9)"; nor is what is wrong with a car's message.
+-- Messages of a session, told by the history: from their first byte on, until `read` takes their bytes as a frame (document 01, "Connected."), or until they
+-- are over (document 02, "Five"). What `read` refuses of them, however they go on, is no condition here: "mode 01 (5), form not announced .. (6), a length
+-- place KB1 doesn't announce (8)", "length byte 0 (8), wrong checksum (9)"; nor is what is wrong with a car's message.
 -- Assumes nothing.
 use Prim.Native.Nat.{ℕ, _+_, _≤_, _<_}
 use mathlib.Core.Bool.{true}
@@ -41,16 +41,16 @@ pub data Speaks (m : Machine) (t : Talk) (b : Event) : Log → List ℕ → Type
       → numberAfter (takenOf log) e ≡ taken → e .kind ≡ Byte → e .side ≡ b .side → InTime (takenOf log) e
       → Speaks m t b (log ▷ e) (bytes ++ (e .value ∷ []))
 
--- A CAR'S MESSAGE IS OVER as the event e comes, before it acts: "a message ends when 20 ms pass"; "under 94 94 a unit byte after a held tester message ends it too".
--- (t is its session, b its first byte.)
+-- A CAR'S MESSAGE IS OVER as the event e comes, before it acts: "a message ends when 20 ms pass"; "under 94 94 a unit byte after a held tester message ends
+-- it too". (t is its session, b its first byte.)
 abbrev pub CutsIn : Talk → Event → Event → Type 0
 CutsIn t b e = (ofQuickCar (t .pair) ≡ true) × (b .side ≡ Tester) × (e .kind ≡ Byte) × (e .side ≡ Unit)
 
 abbrev pub IsOver : Talk → Event → Log → Event → Type 0
 IsOver t b es e = (ofCar (t .pair) ≡ true) × ((20_000 < gapBefore (takenOf es) e .0) ⊎ CutsIn t b e)
 
--- THE EVENT e ENDS A MESSAGE IN A FRAME, under the session's key bytes: it is taken, and either it is a byte with which the message ends itself, or the message of
--- a car is over
+-- THE EVENT e ENDS A MESSAGE IN A FRAME, under the session's key bytes: it is taken, and either it is a byte with which the message ends itself, or the
+-- message of a car is over
 pub record EndsInFrame (m : Machine) (es : Log) (e : Event) (bytes : List ℕ) : Type 0 where
   pub talk : Talk
   pub first : Event

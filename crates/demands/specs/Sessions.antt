@@ -77,8 +77,8 @@ pendingIn pair (fs ▸ f) =
     if isTester (f .side) then a else
     if stops q a || resets q a || retimes q a then [] else q
 
--- THE WINDOWS IN FORCE. "Timing starts at the set KB1 names.", or at a car's, where it stays. A unit frame may change it: "KB1's set", or "those codes from this frame's end, if
--- allowed, else no change".
+-- THE WINDOWS IN FORCE. "Timing starts at the set KB1 names.", or at a car's, where it stays. A unit frame may change it: "KB1's set", or "those codes from
+-- this frame's end, if allowed, else no change".
 unfoldable pub windowsIn : Pair → Frames → Windows
 windowsIn pair nothing = setOf pair
 windowsIn pair (fs ▸ f) =
@@ -161,8 +161,8 @@ pub record Reads (m : Machine) (es : Log) (e : Event) (r : Report) : Type 0 wher
 abbrev pub gapBefore : Log → Event → Micros
 gapBefore log b = gapOf (markOf log) (b .start)
 
--- Time passes first. What was held for more than 20 ms has ended, and "After either, no reply is expected"; but a car's message may have ended in a frame, which
--- the event reports (`frames-exactly` says when, by the events before). The reply that may come once it has ended, in the session t of es:
+-- Time passes first. What was held for more than 20 ms has ended, and "After either, no reply is expected"; but a car's message may have ended in a frame,
+-- which the event reports (`frames-exactly` says when, by the events before). The reply that may come once it has ended, in the session t of es:
 unfoldable pub replyOnceEnded : Machine → Log → Event → Talk → Reply
 replyOnceEnded m es e t =
     if eqb (heldIn m es) 0 then t .reply else
@@ -178,8 +178,8 @@ IdleOver m es e t =
     let gap = gapBefore (takenOf es) e in
     (isPassed (inForce t .p3max) gap ≡ true) × (replyOnceEnded m es e t ≡ First → isPassed (inForce t .p2max) gap ≡ true)
 
--- ---- the first byte of a message: all of it is said by the events before the byte, their reports, and what its event reports of the bytes before it, whatever is
--- reported of the byte itself
+-- ---- the first byte of a message: all of it is said by the events before the byte, their reports, and what its event reports of the bytes before it,
+-- whatever is reported of the byte itself
 -- A BYTE OPENS A MESSAGE, or damage ("First byte of a message"), in the session t of the events before it: it is taken, nothing was held before it or
 -- what was held has ended ("20 ms passed since the mark"; "under 94 94 a unit byte after a held tester message ends it too", so that after it no other byte is
 -- held), and the session has not.

@@ -1,6 +1,7 @@
 // What a start and a byte do.
 ghost use mathlib.Core.Path.{_≡_};
-ghost use Rattle.moves.specs.Moves.{isIdle, startingSlow, isGoodLow, startingFast, startByte, reasonAtFirst, firstByte, firstFrameByte, laterByte, afterByte, afterStop};
+ghost use Rattle.moves.specs.Moves.{isIdle, startingSlow, isGoodLow, startingFast, startByte};
+ghost use Rattle.moves.specs.Moves.{reasonAtFirst, firstByte, firstFrameByte, laterByte, afterByte, afterStop};
 use crate::Move;
 use crate::passing::making;
 use crate::passing::since_origin;

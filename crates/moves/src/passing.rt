@@ -1,6 +1,7 @@
 // What passing time and a closing event do.
 ghost use mathlib.Core.Path.{_≡_};
-ghost use Rattle.moves.specs.Moves.{still, makes, isSilent, lossReason, isRight, ended, afterSilence, isCutIn, afterP2, afterP3, sinceOrigin, afterWindow};
+ghost use Rattle.moves.specs.Moves.{still, makes, isSilent, lossReason, isRight, ended, afterSilence, isCutIn};
+ghost use Rattle.moves.specs.Moves.{afterP2, afterP3, sinceOrigin, afterWindow};
 ghost use Rattle.moves.specs.Moves.{closing, leaving};
 use crate::Move;
 use events::Side;

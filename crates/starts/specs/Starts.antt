@@ -71,7 +71,8 @@ unfoldable pub isReplyFormat : ℕ → Bool
 isReplyFormat v = eqb v 0x03 || eqb v 0x00 || eqb v 0x83 || eqb v 0x80
 
 -- "Each byte is judged as it comes, but checksum and pair both at the checksum byte." "Layout isn't checked against KB1 here, and the addresses may
--- be any." KB1 of a slow start is judged with KB2; after address 33 a car's pair will do too (document 02, "Five"), but "Fast starts still need 14230 key bytes".
+-- be any." KB1 of a slow start is judged with KB2; after address 33 a car's pair will do too (document 02, "Five"), but "Fast starts still need 14230 key
+-- bytes".
 abbrev pub fitsAt : Stage → Start → ℕ → Bool
 fitsAt Sync s v = eqb v 0x55
 fitsAt FirstKey s v = true

@@ -1,5 +1,6 @@
--- Messages of an ISO 9141-2 car (document 02, "Five"; ISO 9141-2, clause 11). "There is no length: a message ends when 20 ms pass, its last byte is the checksum".
--- No byte is kept but the last one (in `length`: there is none); beside it how many came, up to 12, the sum of those before the last, and whether the head is wrong.
+-- Messages of an ISO 9141-2 car (document 02, "Five"; ISO 9141-2, clause 11). "There is no length: a message ends when 20 ms pass, its last byte is the
+-- checksum". No byte is kept but the last one (in `length`: there is none); beside it how many came, up to 12, the sum of those before the last, and whether
+-- the head is wrong.
 -- Assumes nothing.
 use Prim.Native.Nat.{ℕ, _+_}
 use mathlib.Core.Bool.{Bool, false, not, _&&_, _||_}
@@ -50,8 +51,8 @@ carReason m =
     if not (isCarSize (m .at)) then wrongLength else
     if eqb (m .length) (m .sum) then noReason else wrongSum
 
--- before its first byte, and with it. What frames of 14230 say by their data, the first of it and the first seven, stays 0 here: "The rules on 82, 83 .. are for
--- 14230 links only."
+-- before its first byte, and with it. What frames of 14230 say by their data, the first of it and the first seven, stays 0 here: "The rules on 82, 83 .. are
+-- for 14230 links only."
 abbrev pub carEmpty : Side → Message
 carEmpty side = record {
   seven = 0;

@@ -60,7 +60,8 @@ extendedSet = record {
 unfoldable pub namedSet : ℕ → Windows
 namedSet kb1 = if isExtended kb1 then extendedSet else normalSet
 
--- "P2 is 25 to 50 ms for 08 08 and 0 to 50 for 94 94; P1, P3 and P4 are the normal ones." (document 02, "Five"): for 08 08 that is the normal set, and for 94 94 ..
+-- "P2 is 25 to 50 ms for 08 08 and 0 to 50 for 94 94; P1, P3 and P4 are the normal ones." (document 02, "Five"): for 08 08 that is the normal set, and for 94
+-- 94 ..
 abbrev pub quickSet : Windows
 quickSet = record {
   p2min = micros 0;

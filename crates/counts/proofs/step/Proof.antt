@@ -1,7 +1,7 @@
 -- `counts::step` meets its contract: a walk of its MIR, by hand. The borrow is opened and the counts are copied out; `answer_with` and `counts_with`, which are
 -- covered, are called on plain values; the new counts are stored behind the reference, and the borrow is closed at them. What a call gives is stored and passed on as it is.
 -- `walk` is over any types of the locals and any two callees: a local's type is a variable there, of which only is known that the values fit it. Each step of a walk compares contexts, and
--- a context names every local's type. At `code.function`'s own types (`Answer` holds a `Link` and three reports) antt stops at its limit of steps, 99% of them comparisons, where the first
+-- a context names every local's type. At `code.function`'s own types (`Answer` holds a `Link` and four reports) antt stops at its limit of steps, 99% of them comparisons, where the first
 -- call's result is stored, whether or not the context has what the values own. At variables the walk takes about a second, whatever the structs hold; and the types are compared with the MIR's once, in `same`, by `refl`.
 -- A callee is known to the walk by facts alone (`Told`), since plain values own nothing else (`gives-of`): so no type's `own` but that of the counts stands in it.
 -- Assumes nothing.

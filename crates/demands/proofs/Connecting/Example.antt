@@ -1,7 +1,7 @@
--- Good initializations, each by its events alone: document 01's fast one, at any time and after any events, and a slow one. (That our link connects with them:
--- IdleTimes/Examples.antt.)
+-- Good initializations, each by its events alone: document 01's fast one, at any time and after any events, and a slow one, with any key bytes that are right after 33. (That
+-- our link connects with them: IdleTimes/Examples.antt.)
 -- Assumes nothing.
-use Prim.Native.Nat.{ℕ, _+_, _≤_}
+use Prim.Native.Nat.{ℕ, _+_, _-_, _≤_}
 use mathlib.Core.Bool.{Bool, true, _&&_}
 use mathlib.Core.Logic.{inl, inr}
 use mathlib.Core.Path.{_≡_, refl}
@@ -83,7 +83,8 @@ pub fast-number : numberAfter (takenOf fastEvents) fastLast ≡ taken
 unfolding takenOf numberAfter clockOf countOf refusal isUnknown isTooLate isOutOfOrder isOther isByte isNobody
 fast-number = refl
 
--- ---- SLOW: an address that comes to nothing, and 33 from 3000000 to 5000000; 55, EF, 8F from the unit, 70 from the tester, CC from the unit
+-- ---- SLOW: an address that comes to nothing, and 33 from 3000000 to 5000000; 55, KB1, KB2 from the unit, 255 minus KB2 from the tester, CC from the unit. The key
+-- bytes may be any that are right after 33: a good pair, or a car's.
 abbrev pub address : ℕ → ℕ → ℕ → Event
 address v start end = record { start = micros start; end = micros end; kind = Address; side = Nobody; value = v }
 
@@ -93,33 +94,34 @@ slowAddress = address 0x33 3_000_000 5_000_000
 abbrev pub slowBefore : Log
 slowBefore = none ▷ address 0x11 300_000 2_300_000
 
-abbrev pub slowBytes : Log
-slowBytes = none ▷ unit 0x55 5_100_000 ▷ unit 0xEF 5_110_960 ▷ unit 0x8F 5_116_920 ▷ tester 0x70 5_147_880
-
-abbrev pub slowEvents : Log
-slowEvents = slowBefore ▷ slowAddress ▷ unit 0x55 5_100_000 ▷ unit 0xEF 5_110_960 ▷ unit 0x8F 5_116_920 ▷ tester 0x70 5_147_880
-
 abbrev pub slowLast : Event
 slowLast = unit 0xCC 5_178_840
 
-pub slow-good : SlowStart slowAddress (pairOf 0xEF 0x8F) (slowBytes ▷ slowLast)
-unfolding isSlowPair goodPair lengthInFormat extraLength noAddresses withAddresses
-slow-good =
-    slow {s = unit 0x55 5_100_000} {one = unit 0xEF 5_110_960} {two = unit 0x8F 5_116_920} {back = tester 0x70 5_147_880} {done = slowLast}
-    refl (refl, (omega arith, omega arith), refl) (refl, (omega arith, omega arith), tt) (refl, (omega arith, omega arith), refl)
-    (refl, (omega arith, omega arith), refl) (refl, (omega arith, omega arith), refl)
+module _ (kb1 kb2 : ℕ) where
+  abbrev pub slowAfter : Log → Log
+  slowAfter log = log ▷ unit 0x55 5_100_000 ▷ unit kb1 5_110_960 ▷ unit kb2 5_116_920 ▷ tester (255 - kb2) 5_147_880
 
-abbrev pub slow-connects : (m : Machine) → idleUntil m slowBefore slowAddress ≤ slowAddress .start .0 → Connects m slowEvents slowLast
-slow-connects m i = record {
-  start = slowAddress;
-  before = slowBefore;
-  bytes = slowBytes;
-  pair = pairOf 0xEF 0x8F;
-  since = byte refl (byte refl (byte refl (byte refl here)));
-  idle = i;
-  last = refl;
-  good = inl slow-good;
-}
+  abbrev pub slowEvents : Log
+  slowEvents = slowAfter (slowBefore ▷ slowAddress)
+
+  pub slow-good : isSlowPair 0x33 (pairOf kb1 kb2) ≡ true → SlowStart slowAddress (pairOf kb1 kb2) (slowAfter none ▷ slowLast)
+  slow-good g =
+      slow {s = unit 0x55 5_100_000} {one = unit kb1 5_110_960} {two = unit kb2 5_116_920} {back = tester (255 - kb2) 5_147_880} {done = slowLast}
+      refl (refl, (omega arith, omega arith), refl) (refl, (omega arith, omega arith), tt) (refl, (omega arith, omega arith), g)
+      (refl, (omega arith, omega arith), refl) (refl, (omega arith, omega arith), refl)
+
+  abbrev pub slow-connects : (m : Machine) → isSlowPair 0x33 (pairOf kb1 kb2) ≡ true → idleUntil m slowBefore slowAddress ≤ slowAddress .start .0
+      → Connects m slowEvents slowLast
+  slow-connects m g i = record {
+    start = slowAddress;
+    before = slowBefore;
+    bytes = slowAfter none;
+    pair = pairOf kb1 kb2;
+    since = byte refl (byte refl (byte refl (byte refl here)));
+    idle = i;
+    last = refl;
+    good = inl (slow-good g);
+  }
 
 -- ---- values of events that are bytes, as a test
 unfoldable pub allBytes : Log → Bool

@@ -1,5 +1,5 @@
--- HISTORIES THAT CONNECT: document 01's example, a slow start after one that came to nothing, a wake-up 55 ms after a stop, and one at the very mark after P3 max has
--- run out. The idle time that is asked in each is computed (WrongLinks/Computed.antt), all their events are taken, and so, by the theorem, the last byte is
+-- HISTORIES THAT CONNECT: document 01's example, a slow start after one that came to nothing, with a good pair and with a car's two, a wake-up 55 ms after a stop, and
+-- one at the very mark after P3 max has run out. The idle time that is asked in each is computed (WrongLinks/Computed.antt), all their events are taken, and so, by the theorem, the last byte is
 -- answered with report 3, which names the initialization's bytes.
 -- Assumes nothing.
 use Prim.Native.Nat.{ℕ}
@@ -8,6 +8,8 @@ use mathlib.Core.Path.{_≡_, refl}
 use native.Mathlib.Omega.{arith}
 use Rattle.base.specs.Reports.{connectedReport, noReason}
 use Rattle.units.specs.Units.{micros}
+use Rattle.keys.specs.Keys.{lengthInFormat, extraLength, noAddresses, withAddresses, goodPair}
+use Rattle.keys.specs.Editions.{editionOf, isCar, isSlowPair}
 use Rattle.events.specs.Events.{isOther, isByte, isNobody, isUnknown, isTooLate, isOutOfOrder, refusal}
 use Rattle.reports.specs.declared.Report.{Report}
 use Rattle.demands.specs.Logs.{none, _▷_, clockOf, countOf, heardOf, numberAfter, takenOf}
@@ -26,9 +28,24 @@ pub fast-reports : reportsTo ours fastEvents fastLast ≡ (third 0 12 411_520 �
 unfolding takenOf numberAfter clockOf countOf refusal isUnknown isTooLate isOutOfOrder isOther isByte isNobody heardOf allBytes
 fast-reports = connects-names fastEvents fastLast (in-bytes fastEvents refl) fast-number (fast-connects 300_000 ours none (omega (arith, computed .from-fresh))) .reports
 
-pub slow-reports : reportsTo ours slowEvents slowLast ≡ (third 0 5 5_179_800 ∷ [])
-unfolding takenOf numberAfter clockOf countOf refusal isUnknown isTooLate isOutOfOrder isOther isByte isNobody heardOf allBytes
-slow-reports = connects-names slowEvents slowLast (in-bytes slowEvents refl) refl (slow-connects ours (omega (arith, computed .from-failed))) .reports
+pub slow-reports : reportsTo ours (slowEvents 0xEF 0x8F) slowLast ≡ (third 0 5 5_179_800 ∷ [])
+unfolding takenOf numberAfter clockOf countOf refusal isUnknown isTooLate isOutOfOrder isOther isByte isNobody heardOf allBytes isSlowPair goodPair lengthInFormat extraLength noAddresses withAddresses
+slow-reports =
+    connects-names (slowEvents 0xEF 0x8F) slowLast (in-bytes (slowEvents 0xEF 0x8F) refl) refl (slow-connects 0xEF 0x8F ours refl (omega (arith, computed .from-failed)))
+    .reports
+
+-- the same with a car's key bytes
+pub car-reports : reportsTo ours (slowEvents 0x08 0x08) slowLast ≡ (third 0 5 5_179_800 ∷ [])
+unfolding takenOf numberAfter clockOf countOf refusal isUnknown isTooLate isOutOfOrder isOther isByte isNobody heardOf allBytes isSlowPair goodPair editionOf isCar
+car-reports =
+    connects-names (slowEvents 0x08 0x08) slowLast (in-bytes (slowEvents 0x08 0x08) refl) refl (slow-connects 0x08 0x08 ours refl (omega (arith, computed .from-failed)))
+    .reports
+
+pub quick-car-reports : reportsTo ours (slowEvents 0x94 0x94) slowLast ≡ (third 0 5 5_179_800 ∷ [])
+unfolding takenOf numberAfter clockOf countOf refusal isUnknown isTooLate isOutOfOrder isOther isByte isNobody heardOf allBytes isSlowPair goodPair editionOf isCar
+quick-car-reports =
+    connects-names (slowEvents 0x94 0x94) slowLast (in-bytes (slowEvents 0x94 0x94) refl) refl (slow-connects 0x94 0x94 ours refl (omega (arith, computed .from-failed)))
+    .reports
 
 -- 55 ms after the byte that answers a stop, at 532,880
 pub soon-reports : reportsTo ours (bytesAfter 587_880 (stopping ▷ wakeAt 587_880)) (lastAfter 587_880) ≡ (third 18 12 699_400 ∷ [])
