@@ -75,7 +75,7 @@ pub record Beside : Type 0 where
   pub becomes-connected-exactly : (es : Log) (e : Event) → InBytes es
       → ((isConnected (after ours es .link .phase .state) ≡ false) × (isConnected (after ours (es ▷ e) .link .phase .state) ≡ true))
       ↔ ((numberAfter (takenOf es) e ≡ taken) × Connects ours (takenOf es) e)
-  -- It then has the initialization's key bytes, and the windows of the set that KB1 names.
+  -- It then has the initialization's key bytes, and the windows of the set that they name.
   pub connects-link : (es : Log) (e : Event) → InBytes es → numberAfter (takenOf es) e ≡ taken → (c : Connects ours (takenOf es) e)
       → ConnectedLink (takenOf es) e c (ourAnswer es e)
   -- Our rules on messages, byte by byte, end one in a frame exactly if `read` takes its bytes under the same key bytes.

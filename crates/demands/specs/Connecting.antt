@@ -49,5 +49,5 @@ pub record Connected {until : Log → Event → ℕ} (log : Log) (e : Event) (c 
         number = connectedReport;
         reason = noReason;
       } ∷ [])
-  -- its key bytes are a good pair
+  -- its key bytes are a good pair, or a car's
   pub good : isLinkPair (c .pair) ≡ true

@@ -82,20 +82,21 @@ pub record DemandTwo (m : Machine) : Type 0 where
   -- code.)
   pub connects-exactly : (es : Log) (e : Event) → InBytes es
       → Says connectedReport (reportsTo m es e) ↔ ((numberAfter (takenOf es) e ≡ taken) × Connects m (takenOf es) e)
-  -- That report is the only one of its event and names all bytes of the initialization and no other; its key bytes are good.
+  -- That report is the only one of its event and names all bytes of the initialization and no other; its key bytes are good, or a car's.
   pub connects-names : (es : Log) (e : Event) → InBytes es → numberAfter (takenOf es) e ≡ taken → (c : Connects m (takenOf es) e)
       → Connected (takenOf es) e c (reportsTo m es e)
   -- ---- c. WHAT THE LINK REPORTS AS 1 is a frame of the session's edition, and its timing is the one that the frames say
-  -- A session of the history lasts from a report 3 until a report 7, with the key bytes among the bytes that the report 3 names. Its windows are KB1's set,
-  -- the allowed codes of the latest tester frame, or as before, as `windowsIn` reads it off the session's frames; the reply that may come is the one that its
-  -- last report leaves.
+  -- A session of the history lasts from a report 3 until a report 7, with the key bytes among the bytes that the report 3 names. Its windows are the set
+  -- of these key bytes, the allowed codes of the latest tester frame, or as before, as `windowsIn` reads it off the session's frames; the reply that may come
+  -- is the one that its last report leaves.
   -- Each report 1 is made in a session and names bytes that are a frame under the session's key bytes: such as `read` takes, or a car's message without a
   -- fault.
   pub frames-read : (es : Log) (e : Event) (r : Report) → InBytes (es ▷ e) → Among r (reportsTo m es e) → r .number ≡ frameReport → Reads m es e r
   -- And the other way round: a report 1 names these bytes exactly if the event is the byte that ends a message of the session in them, or, of a car, if the
   -- message is these bytes and over. A message goes from a first byte that is neither early nor stray over bytes of the same side, no more than 20 ms apart,
   -- until `read` takes what was heard of it (a car's goes on). Which byte is a first one, and whether it is early or stray, is said by the events before it
-  -- and the reports of bytes before it, and by nothing that is reported of it.
+  -- and the reports of bytes before it, and on a 14230 link by nothing that its own event reports. (What a car's link holds may end as the byte comes: `OpensIn`
+  -- and `replyOnceEnded` then ask whether its event has reported that.)
   pub frames-exactly : (es : Log) (e : Event) (bytes : List ℕ) → InBytes (es ▷ e)
       → ReportsFrame (heardIn (es ▷ e)) (reportsTo m es e) bytes ↔ EndsInFrame m es e bytes
   -- ---- d. DAMAGE, STRAY AND EARLY

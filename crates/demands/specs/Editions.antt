@@ -1,7 +1,8 @@
 -- WHAT KEY BYTES DECIDE of a link's messages, said of bytes (document 01, "Key bytes" and "Connected."; document 02, "Five"). Which edition a unit speaks
--- goes by its pair of key bytes: ISO 14230, or ISO 9141-2 with 08 08 or 94 94, a car. All that the demands ask of a session's pair is asked here, by `setOf`
--- (timing/specs/Timing.antt: its windows), by `dataOf` (frame/specs/Read.antt: the data of its frames, and none of a car's, whose key bytes `read` refuses), by
--- `reasonIn` (Damage.antt: why its bytes are damage) and, for the unit's byte that ends a message, by `isQuick`; all else is said of both editions at once.
+-- goes by its pair of key bytes: ISO 14230, or ISO 9141-2 with 08 08 or 94 94, a car. What the demands ask of a session's pair is asked here and by
+-- `isSlowPair` (Starts.antt: whether it connects), `setOf` (timing/specs/Timing.antt: its windows), `dataOf` (frame/specs/Read.antt: the data of its frames, and
+-- none of a car's, whose key bytes `read` refuses), `reasonIn` (Damage.antt: why its bytes are damage), `IsOver` and `CutsIn` (Messages.antt: when a car's
+-- message ends), and `replyOnceEnded` and `OpensIn` (Sessions.antt: what that leaves). All else is said of both editions at once.
 -- Assumes nothing.
 use Prim.Native.Nat.{ℕ, _+_, _%_}
 use mathlib.Core.Bool.{Bool, true, false, not, _&&_, _||_}

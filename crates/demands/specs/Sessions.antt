@@ -178,8 +178,8 @@ IdleOver m es e t =
     let gap = gapBefore (takenOf es) e in
     (isPassed (inForce t .p3max) gap ≡ true) × (replyOnceEnded m es e t ≡ First → isPassed (inForce t .p2max) gap ≡ true)
 
--- ---- the first byte of a message: all of it is said by the events before the byte, their reports, and what its event reports of the bytes before it,
--- whatever is reported of the byte itself
+-- ---- the first byte of a message: all of it is said by the events before the byte and their reports; and, of a car, whose message may end as the byte
+-- comes, by whether the byte's event reports that: a report 1 (`replyOnceEnded`), or no other byte held after it (`OpensIn`)
 -- A BYTE OPENS A MESSAGE, or damage ("First byte of a message"), in the session t of the events before it: it is taken, nothing was held before it or
 -- what was held has ended ("20 ms passed since the mark"; "under 94 94 a unit byte after a held tester message ends it too", so that after it no other byte is
 -- held), and the session has not.

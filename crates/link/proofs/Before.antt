@@ -721,7 +721,10 @@ spared l e q w f k s c =
     f (record { byte = k; state = ap (λ (p : Phase). p .state) (sym z) ∙ s; key = subst (λ (p : Phase). CarKey (p .start) (e .value)) z c })
 
 few : (l : Link) (e : Event) → Of14230 (l .phase) → handled l e .reports .n ≤ 3
-few l e g = three-enough l e (ap (λ (k : ℕ). eqb k noReason) (same-end (l .phase .message) (l .phase .start .pair) (g .part)))
+unfolding isRight
+few l e g =
+    three-enough l e
+    (off-right (isHeld (l .phase .state)) _ (ap (λ (k : ℕ). eqb k noReason) (same-end (l .phase .message) (l .phase .start .pair) (g .part))))
 
 -- the event is handled, and answered
 pub same-handled : (l : Link) (e : Event) → Of14230 (l .phase) → (CompletesCar l e → ⊥) → handled l e ≡ oldHandled l e

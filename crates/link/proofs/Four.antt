@@ -2,7 +2,7 @@
 -- moment so many places may still be needed (`need`): by what is open, for a start or a byte, for a stop. Each rule pays for its report out of them.
 -- Assumes nothing.
 use Prim.Native.Nat.{ℕ, _+_, _≤_}
-use mathlib.Core.Bool.{Bool, true, false, false≢true}
+use mathlib.Core.Bool.{Bool, true, false, _&&_, false≢true}
 use mathlib.Core.List.{List, _++_, append-nil}
 use mathlib.Core.Path.{_≡_, _∙_, refl, sym, ap}
 use native.Mathlib.Omega.{arith}
@@ -16,11 +16,12 @@ use Rattle.events.specs.declared.Event.{Event}
 use Rattle.talk.specs.Talk.{isFirst, endReason}
 use Rattle.talk.specs.declared.Reply.{Reply}
 use Rattle.talk.specs.declared.Reply.the-variants.{First, Further}
-use Rattle.phases.specs.Phases.{isOpen, down, starting, connected, talking, holding, damaged, settled, asked, answered, timed, framed}
+use Rattle.phases.specs.Phases.{isHeld, isOpen, down, starting, connected, talking, holding, damaged, settled, asked, answered, timed, framed}
 use Rattle.phases.specs.declared.State.{State}
 use Rattle.phases.specs.declared.State.the-variants.{Down, Starting, Quiet, Held, Damage}
 use Rattle.phases.specs.declared.Phase.{Phase}
 use Rattle.phases.proofs.StateTests.{held-is}
+use Rattle.moves.specs.Moves.{isRight}
 use Rattle.moves.specs.declared.Move.{Move}
 use Rattle.moves.proofs.Rules.{Moment, at-silence, at-p2, at-p3, at-window, at-closing, at-leaving, at-start, at-cut, at-hearing, at-byte, at-stop, at-end, next}
 use Rattle.moves.proofs.Rules.{Rule, Unmoved, rests, ends-right, breaks-off, waited, idled, expires, cuts-off, aborts, leaves, drops, starts-slow, starts-fast, hurries, low}
@@ -103,10 +104,6 @@ toEnd-most Held reply false = omega arith
 toEnd-most Damage reply true = omega arith
 toEnd-most Damage reply false = omega arith
 
-two-most : (st : State) (reply : Reply) (right : Bool) → right ≡ false → toEnd st reply right ≤ 2
-two-most st reply true n = absurd (false≢true (sym n))
-two-most st reply false n = toEnd-most st reply false
-
 most-three : (right : Bool) → (if right then 3 else 2) ≤ 3
 most-three true = omega arith
 most-three false = omega arith
@@ -135,6 +132,15 @@ quiet-some reply right = by-test (λ (k : ℕ). 1 ≤ k) (isFirst reply) (λ _. 
 quiet-two : (reply : Reply) (right : Bool) → toEnd Quiet reply right ≤ 2
 unfolding toEnd
 quiet-two reply right = by-test (λ (k : ℕ). k ≤ 2) (isFirst reply) (λ _. omega arith) (λ _. omega arith)
+
+two-most : (st : State) (reply : Reply) (right : Bool) → (isHeld st && right) ≡ false → toEnd st reply right ≤ 2
+unfolding toEnd isHeld
+two-most Down reply right n = omega arith
+two-most Starting reply right n = omega arith
+two-most Quiet reply right n = quiet-two reply right
+two-most Held reply true n = absurd (false≢true (sym n))
+two-most Held reply false n = omega arith
+two-most Damage reply right n = omega arith
 
 -- ---- EACH RULE PAYS for its report, and for what may be needed after it
 abbrev Pays : Phase → Moment → Move → Type 0
@@ -234,9 +240,9 @@ four-enough l e =
     let t = toEnd-most (l .phase .state) (l .phase .reply) (right (l .phase)) in
     handled-roomy 4 (omega arith) l e (omega (arith, t, most-three (right (l .phase)))) .all
 
--- .. and no more than three are made where a message held is not right as it stands
-pub three-enough : (l : Link) (e : Event) → eqb (endReason (l .phase .message)) noReason ≡ false → handled l e .reports .n ≤ 3
-unfolding needIn
+-- .. and no more than three are made where no message is held that is right as it stands
+pub three-enough : (l : Link) (e : Event) → isRight (l .phase) ≡ false → handled l e .reports .n ≤ 3
+unfolding needIn isRight
 three-enough l e r =
     let t = two-most (l .phase .state) (l .phase .reply) (right (l .phase)) r in
     let x = handled-roomy 3 (omega arith) l e (omega (arith, t)) .room in

@@ -145,7 +145,7 @@ fn enter(l: Link, e: Event) -> Run
     }
 }
 
-// Time passes, and the event acts.
+// Time passes, a byte may end what is held, and the event acts.
 fn handle(l: Link, e: Event) -> Run
     ensures { λ x. ⌜ x ≡ handled l e ⌝ }
 {

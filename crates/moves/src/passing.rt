@@ -97,8 +97,8 @@ pub fn after_silence(p: Phase, gap: Micros) -> Move
     stay(p)
 }
 
-// Whether a byte of this side ends the message held: the unit's, which may answer at once, the
-// tester's.
+// Whether a byte of this side ends the message held: under 94 94 the unit's byte ends the tester's
+// message.
 pub fn is_cut_in(p: Phase, side: Side) -> bool
     ensures { λ r. ⌜ r ≡ isCutIn p side ⌝ }
 {

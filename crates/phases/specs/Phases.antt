@@ -118,7 +118,7 @@ unfoldable pub starting : Micros → Start → Phase
 starting fall start = unconnected Starting (micros 0) fall start
 
 -- ---- connected
--- "Timing starts at the set KB1 names." No reply is expected yet.
+-- "Timing starts at the set KB1 names.", or at a car's (`setOf`). No reply is expected yet.
 unfoldable pub connected : Start → Phase
 connected start = record {
   windows = setOf (start .pair);

@@ -133,7 +133,7 @@ isSum Data = false
 isSum Sum = true
 isSum Free = false
 
--- the reason of a message that is held and ends because 20 ms have passed: "report 2, reason 1". A car's message is judged then, and may be right (0).
+-- a car's message
 unfoldable pub isFree : Part → Bool
 isFree Target = false
 isFree Source = false
@@ -142,6 +142,8 @@ isFree Data = false
 isFree Sum = false
 isFree Free = true
 
+-- the reason of a message that is held and has ended before its last byte came, because 20 ms have passed: "report 2, reason 1". A car's message is judged
+-- then, or as a unit's byte ends it, and may be right (0).
 unfoldable pub endReason : Message → ℕ
 endReason m = if isFree (m .part) then carReason m else brokenOff
 

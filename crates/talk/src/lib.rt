@@ -58,7 +58,8 @@ pub enum Part {
 // A message being heard: its first seven data bytes as one number, whose it is, the part that is
 // next, whether it has a length byte, its length, the data bytes so far, the sum of all bytes, the
 // first data byte; and the reason of damage. Of a car's message: its last byte (`length`: it has
-// none), its bytes so far, the sum of all but the last, and whether its head is wrong.
+// none), how many bytes it has so far, up to 12 (`at`), the sum of all but the last, and whether its
+// head is wrong (`why`).
 pub struct Message {
     pub seven: u64,
     pub side: Side,
@@ -293,7 +294,8 @@ fn is_free(part: Part) -> bool
     }
 }
 
-// The reason of a message that ends because 20 ms have passed, or 0.
+// The reason of a message that has ended because 20 ms have passed, or of a car's that a unit's byte
+// ends; or 0.
 pub fn end_reason(m: Message) -> u8
     ensures { λ r. ⌜ r ≡ endReason m ⌝ }
 {

@@ -1,5 +1,5 @@
 -- How short a window in force can be: P2 max is at least 25 ms and P3 max at least 250 ms, both above the 20 ms after which a message or damage
--- ends. That holds of the windows that allowed codes stand for, and of both sets. No limit stands as the greatest number, and so counts as longer.
+-- ends. That holds of the windows that allowed codes stand for, and of every set. No limit stands as the greatest number, and so counts as longer.
 -- Assumes nothing.
 use mathlib.Core.Path.{_≡_, refl}
 use mathlib.Core.Bool.{Bool, true, _&&_, _||_}

@@ -1,4 +1,4 @@
-// Timing windows, the five codes that change them, and the two sets that KB1 names.
+// Timing windows, the five codes that change them, and the sets that key bytes name.
 ghost use mathlib.Core.Path.{_≡_};
 ghost use Rattle.timing.specs.Timing.{untilTime, noLimit, isUnlimited, isPassed, isBelow, normalSet, extendedSet, quickSet, namedSet, setOf, isAllowed};
 ghost use Rattle.timing.specs.Timing.{minOf, p2MaxOf, p3MaxOf, windowsBy, notDecoded, decodedOf};

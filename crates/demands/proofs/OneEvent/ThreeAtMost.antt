@@ -2,13 +2,20 @@
 -- session lasts, none fills more than three (`three-at-most`).
 -- Assumes nothing.
 use Prim.Native.Nat.{_≤_}
+use mathlib.Core.Bool.{Bool, true, false, _&&_, false≢true}
 use mathlib.Core.List.{List}
 use mathlib.Core.Path.{_≡_, refl, sym, ap, _∙_, subst}
 use native.Mathlib.Omega.{arith}
+use borrow.Author.Tests.{eqb-true, eqb-false}
 use lib.Dec.{eqb}
+use lib.ListN.{length}
 use Rattle.base.specs.Numbers.{taken}
-use Rattle.base.proofs.Tests.{by-test}
+use Rattle.base.specs.Reports.{noReason}
+use Rattle.base.proofs.Tests.{and-split, by-test}
 use Rattle.events.specs.declared.Event.{Event}
+use Rattle.talk.specs.Talk.{endReason}
+use Rattle.phases.specs.Phases.{isHeld}
+use Rattle.moves.specs.Moves.{isRight}
 use Rattle.moves.specs.declared.Move.{Move}
 use Rattle.moves.proofs.Rules.{Moment}
 use Rattle.reports.specs.Reporting.{places, told, moved, listed}
@@ -22,24 +29,18 @@ use Rattle.link.specs.Stepping.{numberOf, refusedBy, takenBy, answerOf, stepOf}
 use Rattle.link.specs.declared.Link.{Link}
 use Rattle.link.specs.declared.Answer.{Answer}
 use Rattle.link.proofs.Walk.{event-walk}
+use Rattle.link.proofs.Four.{three-enough}
+use Rattle.link.proofs.CarLinks.{right-free}
 use Rattle.demands.specs.Histories.{after, reportsTo}
-use Rattle.demands.proofs.Histories.ReportsMade.{none-refused}
-use Rattle.demands.proofs.Sessions.SessionExactly.{session-exactly, session-link}
 use Rattle.demands.specs.Logs.{Log, InBytes, numberAfter, takenOf}
 use Rattle.demands.specs.Sessions.{Talk, Session}
 use Rattle.demands.specs.Ours.{ours}
 use Rattle.demands.specs.Editions.{ofCar}
-use mathlib.Core.Bool.{Bool, true, false, false≢true}
-use Rattle.talk.specs.Talk.{endReason}
-use lib.ListN.{length}
-use Rattle.demands.specs.Histories.{reportsTo, after}
-use Rattle.base.specs.Reports.{noReason}
+use Rattle.demands.proofs.Histories.ReportsMade.{none-refused}
+use Rattle.demands.proofs.Sessions.SessionExactly.{session-exactly, session-link}
 use Rattle.demands.proofs.Moves.Causes.{false-of}
 use Rattle.demands.proofs.Histories.CarsFit.{fitting-of}
-use Rattle.link.proofs.Four.{three-enough}
-use Rattle.link.proofs.CarLinks.{right-free}
 use Rattle.demands.proofs.Histories.Basics.{answer-taken}
-use borrow.Author.Tests.{eqb-true, eqb-false}
 
 abbrev Placed : Reports → Type 0
 Placed rs = rs .n ≤ places
@@ -62,12 +63,13 @@ step-placed l c e =
 
 -- NO MORE THAN THREE unless a car's session lasts: then no message held is right as it stands, or none is held
 not-free : (es : Log) → InBytes es → ((t : Talk) → Session ours es t → ofCar (t .pair) ≡ false)
-    → eqb (endReason (after ours es .link .phase .message)) noReason ≡ false
+    → isRight (after ours es .link .phase) ≡ false
+unfolding isRight
 not-free es b n =
     let p = after ours es .link .phase in
-    false-of (eqb (endReason (p .message)) noReason)
+    false-of (isHeld (p .state) && eqb (endReason (p .message)) noReason)
     (λ r.
-    let x = fitting-of es .free (right-free (p .message) r) in
+    let x = fitting-of es .free (right-free (p .message) (and-split (isHeld (p .state)) _ r .1)) in
     let s = session-exactly es b .0 (x .0) in
     false≢true (sym (n (s .talk) (s .session)) ∙ (sym (ap ofCar (session-link es (s .talk) b (s .session) .pair)) ∙ x .1)))
 

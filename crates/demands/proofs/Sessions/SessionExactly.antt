@@ -1,4 +1,4 @@
--- The session of a history and the link's: in a session the link is connected, its key bytes are good and the session's, the windows in force and the
+-- The session of a history and the link's: in a session the link is connected, its key bytes are a link's and the session's, the windows in force and the
 -- reply that may come are those that the history says; and the link is connected exactly if the history is in a session.
 -- Assumes nothing.
 use mathlib.Core.Bool.{Bool, true, false, false≢true}
