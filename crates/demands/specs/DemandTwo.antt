@@ -95,8 +95,8 @@ pub record DemandTwo (m : Machine) : Type 0 where
   -- And the other way round: a report 1 names these bytes exactly if the event is the byte that ends a message of the session in them, or, of a car, if the
   -- message is these bytes and over. A message goes from a first byte that is neither early nor stray over bytes of the same side, no more than 20 ms apart,
   -- until `read` takes what was heard of it (a car's goes on). Which byte is a first one, and whether it is early or stray, is said by the events before it
-  -- and the reports of bytes before it, and on a 14230 link by nothing that its own event reports. (What a car's link holds may end as the byte comes: `OpensIn`
-  -- and `replyOnceEnded` then ask whether its event has reported that.)
+  -- and the reports of bytes before it, and on a 14230 link by nothing that its own event reports. (What a car's link holds may end as the byte comes:
+  -- `OpensIn` and `replyOnceEnded` then ask whether its event has reported that.)
   pub frames-exactly : (es : Log) (e : Event) (bytes : List ℕ) → InBytes (es ▷ e)
       → ReportsFrame (heardIn (es ▷ e)) (reportsTo m es e) bytes ↔ EndsInFrame m es e bytes
   -- ---- d. DAMAGE, STRAY AND EARLY
@@ -108,8 +108,8 @@ pub record DemandTwo (m : Machine) : Type 0 where
   pub opens-first : (before : Log) (b : Event) (t : Talk) → InBytes (before ▷ b) → OpensIn m before b t → (es : Log) → Begins (before ▷ b) es → InBytes es
       → (r : Report) → Among r (reportsOf m es) → r .first ≤ length (heardIn before) → length (heardIn before) < r .first + r .bytes
       → r .first ≡ length (heardIn before)
-  -- Report 2, in a session, exactly if something is held and 20 ms have passed since the mark, or A, W or D comes, or the unit's byte ends the tester's message
-  -- under 94 94; and it does not end in a frame, as a car's right message does once it is over; ..
+  -- Report 2, in a session, exactly if something is held and 20 ms have passed since the mark, or A, W or D comes, or the unit's byte ends the tester's
+  -- message under 94 94; and it does not end in a frame, as a car's right message does once it is over; ..
   pub damage-exactly : (es : Log) (e : Event) (t : Talk) → InBytes es → Session m es t
       → Says damageReport (reportsTo m es e)
       ↔ ((numberAfter (takenOf es) e ≡ taken) × (0 < heldIn m es) × Not (EndsRight m es e)

@@ -1,8 +1,8 @@
 -- WHAT KEY BYTES DECIDE of a link's messages, said of bytes (document 01, "Key bytes" and "Connected."; document 02, "Five"). Which edition a unit speaks
 -- goes by its pair of key bytes: ISO 14230, or ISO 9141-2 with 08 08 or 94 94, a car. What the demands ask of a session's pair is asked here and by
--- `isSlowPair` (Starts.antt: whether it connects), `setOf` (timing/specs/Timing.antt: its windows), `dataOf` (frame/specs/Read.antt: the data of its frames, and
--- none of a car's, whose key bytes `read` refuses), `reasonIn` (Damage.antt: why its bytes are damage), `IsOver` and `CutsIn` (Messages.antt: when a car's
--- message ends), and `replyOnceEnded` and `OpensIn` (Sessions.antt: what that leaves). All else is said of both editions at once.
+-- `isSlowPair` (Starts.antt: whether it connects), `setOf` (timing/specs/Timing.antt: its windows), `dataOf` (frame/specs/Read.antt: the data of its
+-- frames, and none of a car's, whose key bytes `read` refuses), `reasonIn` (Damage.antt: why its bytes are damage), `IsOver` and `CutsIn` (Messages.antt:
+-- when a car's message ends), and `replyOnceEnded` and `OpensIn` (Sessions.antt: what that leaves). All else is said of both editions at once.
 -- Assumes nothing.
 use Prim.Native.Nat.{ℕ, _+_, _%_}
 use mathlib.Core.Bool.{Bool, true, false, not, _&&_, _||_}
@@ -61,8 +61,8 @@ unfoldable pub isFrame : Pair → Side → List ℕ → Bool
 isFrame pair side bytes =
     if ofCar pair then eqb (carFault side bytes) noReason else eqb (readOf (pair .kb1) (pair .kb2) bytes .no) taken
 
--- A MESSAGE THAT ENDS WITH ITS LAST BYTE: "A right checksum is report 1.", and so every frame of 14230 does. A car's message never does: "There is no length: a
--- message ends when 20 ms pass".
+-- A MESSAGE THAT ENDS WITH ITS LAST BYTE: "A right checksum is report 1.", and so every frame of 14230 does. A car's message never does: "There is no
+-- length: a message ends when 20 ms pass".
 unfoldable pub endsItself : Pair → List ℕ → Bool
 endsItself pair bytes = not (ofCar pair) && eqb (readOf (pair .kb1) (pair .kb2) bytes .no) taken
 

@@ -12,9 +12,9 @@ use Rattle.reports.specs.declared.Report.{Report}
 
 -- THE PLACE OF A REPORT'S RULE among the rules, by number and reason, in document 01's order. Time passes first: 2, or 1 of a car's message (document 02:
 -- "The P2 and P3 rules act after that"); 6, 7 reason 2, 4 reason 1. "A, W or D then close what is open": 2 (at an event it is made once, by passing time, by
--- closing, or as a unit's byte ends a car's message, which then has 1 or 2 before it acts), 4 reason 2, 7 reason 3 or 4. Then a start is judged: 8, 4 reason 3. A byte itself makes one report at most: report 1, report 3, report 5, or
--- report 4 with reason 4, 5 or 6; where it is a report 1, a message was held and in time, so that nothing comes before it, and it has the place of a report
--- 2. Last, "report 1, then 7 reason 1".
+-- closing, or as a unit's byte ends a car's message, which then has 1 or 2 before it acts), 4 reason 2, 7 reason 3 or 4. Then a start is judged: 8, 4
+-- reason 3. A byte itself makes one report at most: report 1, report 3, report 5, or report 4 with reason 4, 5 or 6; where it is a report 1, a message was
+-- held and in time, so that nothing comes before it, and it has the place of a report 2. Last, "report 1, then 7 reason 1".
 unfoldable pub ruleOf : ℕ → ℕ → ℕ
 ruleOf number reason =
     if eqb number damageReport || eqb number frameReport then 1 else
