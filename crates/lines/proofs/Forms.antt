@@ -22,12 +22,14 @@ use Rattle.events.specs.declared.Kind.the-variants.{Address, WakeUp, Byte, Tick
 use Rattle.events.specs.declared.Side.{Side}
 use Rattle.events.specs.declared.Side.the-variants.{Tester, Unit, Nobody}
 use Rattle.events.specs.declared.Event.{Event}
-use Rattle.lines.specs.Lines.{isDigit, isCapital, hexOf, digitOn, freshReading, unreadable, timed, lettered, spaced, sided, highRead, lowRead}
+use Rattle.words.specs.Digits.{isDigit, isCapital, hexOf}
+use Rattle.lines.specs.Lines.{digitOn, freshReading, unreadable, timed, lettered, spaced, sided, highRead, lowRead}
 use Rattle.lines.specs.Lines.{takesDigit, timeRead, startRead, endRead, readByte, isLast, isWhole, noEvent, eventOf, readAll, lineOf}
 use Rattle.lines.specs.declared.Place.{Place}
 use Rattle.lines.specs.declared.Place.the-variants.{BeforeSide, AtSide, BeforeHex, High, Low, BeforeTime, Time, BeforeStart, Start, End}
 use Rattle.lines.specs.declared.Reading.{Reading}
-use Rattle.lines.proofs.Laws.{digit-within, capital-within, few-digits, below, more}
+use Rattle.words.proofs.Within.{digit-within, capital-within}
+use Rattle.lines.proofs.Laws.{few-digits, below, more}
 
 -- ---- THE TEXT OF A LINE, without its line feed
 -- "one space between"

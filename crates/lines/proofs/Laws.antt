@@ -9,19 +9,11 @@ use borrow.Author.Tests.{leb-true, le-leb, lt-leb, ltb-true}
 use native.Mathlib.Omega.{arith}
 use native.Mathlib.Nat.{pow-le-pow-right, pow-succ'}
 use Rattle.base.proofs.Tests.{and-split}
-use Rattle.lines.specs.Lines.{isDigit, isCapital, takesDigit}
+use Rattle.words.specs.Digits.{isDigit, isCapital}
+use Rattle.lines.specs.Lines.{takesDigit}
 use Rattle.lines.specs.Quick.{digitsAt}
 use Rattle.lines.specs.declared.Reading.{Reading}
 use Rattle.lines.specs.declared.quick.Span.{Span}
-
--- ---- where a digit lies
-pub digit-within : (b : ℕ) → isDigit b ≡ true → (0x30 ≤ b) × (b ≤ 0x39)
-unfolding isDigit
-digit-within b e = let p = and-split (leb 0x30 b) (leb b 0x39) e in (leb-true 0x30 b (p .0), leb-true b 0x39 (p .1))
-
-pub capital-within : (b : ℕ) → isCapital b ≡ true → (0x41 ≤ b) × (b ≤ 0x46)
-unfolding isCapital
-capital-within b e = let p = and-split (leb 0x41 b) (leb b 0x46) e in (leb-true 0x41 b (p .0), leb-true b 0x46 (p .1))
 
 -- of a time that takes one more digit there are fewer than 13
 pub few-digits : (r : Reading) (b : ℕ) → takesDigit r b ≡ true → r .digits < 13

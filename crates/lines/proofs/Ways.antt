@@ -17,14 +17,16 @@ use Rattle.events.specs.Events.{kindBy, sideBy, sameSide, isNobody}
 use Rattle.events.specs.declared.Kind.the-variants.{Byte}
 use Rattle.events.specs.declared.Side.{Side}
 use Rattle.events.specs.declared.Side.the-variants.{Tester, Unit, Nobody}
-use Rattle.lines.specs.Lines.{isDigit, isCapital, hexOf, digitOn, lettered, spaced, sided, highRead, lowRead, takesDigit, startRead, endRead}
+use Rattle.words.specs.Digits.{isDigit, isCapital, hexOf}
+use Rattle.lines.specs.Lines.{digitOn, lettered, spaced, sided, highRead, lowRead, takesDigit, startRead, endRead}
 use Rattle.lines.specs.Lines.{readByte, isLetter, isEmpty, isLast, isWhole, eventOf}
 use Rattle.lines.specs.Getting.{gotOf, ended}
 use Rattle.lines.specs.Quick.{digitsAt, secondAt, timesAt, hasWords, rowAt, rowOf, rowGot}
 use Rattle.lines.specs.declared.Place.{Place}
 use Rattle.lines.specs.declared.Place.the-variants.{Letter, BeforeSide, AtSide, BeforeHex, High, Low, BeforeTime, Time, BeforeStart, Start, End, Nowhere}
 use Rattle.lines.specs.declared.Reading.{Reading}
-use Rattle.lines.proofs.Laws.{digit-within, digits-within}
+use Rattle.words.proofs.Within.{digit-within}
+use Rattle.lines.proofs.Laws.{digits-within}
 use Rattle.lines.proofs.Parts.{got-feed, got-byte}
 
 -- ---- digits of either time

@@ -7,6 +7,7 @@ use mathlib.Core.List.{List, [], _∷_}
 use lib.Dec.{eqb, leb, ltb}
 use Rattle.base.specs.Choice.{if_then_else_}
 use Rattle.base.specs.Sums.{byteSum}
+use Rattle.words.specs.Digits.{isDigit, hexOf}
 use Rattle.units.specs.Units.{micros}
 use Rattle.events.specs.Events.{kindBy, sideBy}
 use Rattle.events.specs.declared.Kind.{Kind}
@@ -22,16 +23,6 @@ abbrev pub space : ℕ
 space = 0x20
 
 -- ---- digits
-unfoldable pub isDigit : ℕ → Bool
-isDigit b = leb 0x30 b && leb b 0x39
-
-unfoldable pub isCapital : ℕ → Bool
-isCapital b = leb 0x41 b && leb b 0x46
-
--- "Hex digits are 0 to 9 and A to F": the value of one, and 16 of any other byte
-unfoldable pub hexOf : ℕ → ℕ
-hexOf b = if isDigit b then b - 0x30 else if isCapital b then b - 0x37 else 16
-
 -- a number with one digit more: 12 digits in front of it are kept, and no time has more (`few-digits`)
 unfoldable pub digitOn : ℕ → ℕ → ℕ
 digitOn n b = n % 1_000_000_000_000 * 10 + (b - 0x30)

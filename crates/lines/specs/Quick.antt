@@ -12,7 +12,8 @@ use Rattle.events.specs.Events.{sideBy, sameSide}
 use Rattle.events.specs.declared.Kind.the-variants.{Byte}
 use Rattle.events.specs.declared.Side.{Side}
 use Rattle.events.specs.declared.Side.the-variants.{Nobody}
-use Rattle.lines.specs.Lines.{isDigit, hexOf, noEvent, freshReading}
+use Rattle.words.specs.Digits.{isDigit, hexOf}
+use Rattle.lines.specs.Lines.{noEvent, freshReading}
 use Rattle.lines.specs.declared.quick.Span.{Span}
 use Rattle.lines.specs.declared.Row.{Row}
 use Rattle.lines.specs.declared.Got.{Got}

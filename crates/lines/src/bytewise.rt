@@ -1,6 +1,7 @@
 // A line, byte by byte.
 ghost use mathlib.Core.Path.{_≡_};
-ghost use Rattle.lines.specs.Lines.{isDigit, isCapital, hexOf, digitOn, begun, freshReading, unreadable, lettered};
+ghost use Rattle.words.specs.Digits.{isDigit, isCapital, hexOf};
+ghost use Rattle.lines.specs.Lines.{digitOn, begun, freshReading, unreadable, lettered};
 ghost use Rattle.lines.specs.Lines.{timed, valued, spaced, sided, highRead, lowRead, takesDigit, timeRead, startRead, endRead};
 ghost use Rattle.lines.specs.Lines.{readByte, isLetter, isEmpty, isLast, isWhole, noEvent, eventOf};
 use crate::Place;
@@ -15,31 +16,6 @@ const SPACE: u8 = 0x20;
 
 // The most digits of a time.
 const MOST_DIGITS: u32 = 13;
-
-fn is_digit(b: u8) -> bool
-    ensures { λ r. ⌜ r ≡ isDigit b ⌝ }
-{
-    (0x30 <= b) & (b <= 0x39)
-}
-
-fn is_capital(b: u8) -> bool
-    ensures { λ r. ⌜ r ≡ isCapital b ⌝ }
-{
-    (0x41 <= b) & (b <= 0x46)
-}
-
-// The value of a hex digit, 16 of any other byte.
-pub(crate) fn hex(b: u8) -> u8
-    ensures { λ r. ⌜ r ≡ hexOf b ⌝ }
-{
-    if is_digit(b) {
-        return b - 0x30;
-    }
-    if is_capital(b) {
-        return b - 0x37;
-    }
-    16
-}
 
 // A number with one decimal digit more: the last 13 of them.
 fn digit_on(n: u64, b: u8) -> u64
@@ -147,7 +123,7 @@ fn read_side(r: Reading, side: Side) -> Reading
 fn read_high(r: Reading, b: u8) -> Reading
     ensures { λ x. ⌜ x ≡ highRead r b ⌝ }
 {
-    let h = hex(b);
+    let h = words::hex(b);
     let side = r.side;
     if 15 < h {
         return give_up();
@@ -159,7 +135,7 @@ fn read_high(r: Reading, b: u8) -> Reading
 fn read_low(r: Reading, b: u8) -> Reading
     ensures { λ x. ⌜ x ≡ lowRead r b ⌝ }
 {
-    let h = hex(b);
+    let h = words::hex(b);
     let side = r.side;
     if 15 < h {
         return give_up();
@@ -171,7 +147,7 @@ fn read_low(r: Reading, b: u8) -> Reading
 fn takes_digit(r: Reading, b: u8) -> bool
     ensures { λ x. ⌜ x ≡ takesDigit r b ⌝ }
 {
-    is_digit(b) & (r.digits < MOST_DIGITS)
+    words::is_digit(b) & (r.digits < MOST_DIGITS)
 }
 
 // A byte of the only time.

@@ -5,7 +5,6 @@ ghost use Prim.Native.Nat.{_+_, _≤_};
 ghost use lib.ListN.{length};
 ghost use Rattle.lines.specs.Quick.{digitsAt, noRow, secondAt, timesAt, hasWords, rowAt, rowOf};
 use crate::Row;
-use crate::bytewise::hex;
 use crate::bytewise::no_event;
 use events::Event;
 use events::Kind;
@@ -115,11 +114,11 @@ fn row_at(s: &[u8], at: usize) -> Row
     if events::same_side(side, Side::Nobody) {
         return no_row();
     }
-    let h = hex(s[at + 4]);
+    let h = words::hex(s[at + 4]);
     if 15 < h {
         return no_row();
     }
-    let l = hex(s[at + 5]);
+    let l = words::hex(s[at + 5]);
     if 15 < l {
         return no_row();
     }

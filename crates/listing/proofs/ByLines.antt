@@ -18,7 +18,8 @@ use Rattle.events.specs.declared.Side.the-variants.{Tester, Unit, Nobody}
 use Rattle.events.specs.declared.Event.{Event}
 use Rattle.reports.specs.Counting.{isFull}
 use Rattle.link.specs.Stepping.{numberOf, refusedBy, answerOf, countsAfter, stepOf}
-use Rattle.lines.specs.Lines.{space, hexOf, freshReading, lettered, spaced, sided, highRead, lowRead, takesDigit, timeRead, startRead, endRead}
+use Rattle.words.specs.Digits.{hexOf}
+use Rattle.lines.specs.Lines.{space, freshReading, lettered, spaced, sided, highRead, lowRead, takesDigit, timeRead, startRead, endRead}
 use Rattle.lines.specs.Lines.{readAt, readByte, isLetter, isEmpty, noEvent, eventOf, readAll, lineOf}
 use Rattle.lines.specs.Getting.{lineFeed}
 use Rattle.lines.specs.declared.Place.{Place}

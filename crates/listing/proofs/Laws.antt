@@ -29,8 +29,10 @@ use Rattle.lines.specs.declared.Reading.{Reading}
 use Rattle.lines.specs.declared.Got.{Got}
 use Rattle.lines.specs.declared.Row.{Row}
 use Rattle.lines.proofs.Ways.{row-line}
-use Rattle.text.specs.Text.{reportsText, refusedText, endText, refusedMost, endMost, put, Puts, Writes}
-use Rattle.text.proofs.Laws.{puts-join, puts-nil, put-nil, puts-writes, writes-puts, reports-small, refused-small, end-small}
+use Rattle.words.specs.Writing.{put, Puts, Writes}
+use Rattle.text.specs.Text.{reportsText, refusedText, endText, refusedMost, endMost}
+use Rattle.words.proofs.Written.{puts-join, puts-nil, put-nil, puts-writes, writes-puts}
+use Rattle.text.proofs.Laws.{reports-small, refused-small, end-small}
 use Rattle.listing.specs.Listing.{Feed, answerText, stepped, saidOf, lineEnded, withReading, feedByte, finished, heldOf, endingOf}
 use Rattle.listing.specs.Parts.{answerMost, endingMost, takes, partOf, Parted}
 use Rattle.listing.specs.Turns.{Acted, readingAfter, RowAt, listerOf, Glided, Stretched, Turned, Ended}

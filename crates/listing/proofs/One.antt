@@ -5,7 +5,7 @@ use Prim.Native.Nat.{ℕ, _+_}
 use lib.ListN.{length}
 use Rattle.base.specs.Choice.{if_then_else_}
 use Rattle.base.proofs.One.{Only, only, only-both}
-use Rattle.text.specs.Text.{put, fits, Writes}
+use Rattle.words.specs.Writing.{put, fits, Writes}
 use Rattle.listing.specs.Listing.{freshLister, endingOf}
 use Rattle.listing.specs.Parts.{endingMost, partOf, Parted}
 use Rattle.listing.specs.declared.Lister.{Lister}

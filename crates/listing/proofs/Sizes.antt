@@ -13,8 +13,10 @@ use Rattle.events.specs.declared.Event.{Event}
 use Rattle.link.specs.Stepping.{stepOf}
 use Rattle.link.specs.declared.Answer.{Answer}
 use Rattle.lines.specs.Lines.{isEmpty, eventOf}
-use Rattle.text.specs.Text.{endText, put, Writes}
-use Rattle.text.proofs.Laws.{length-put, reports-small, refused-small, end-small}
+use Rattle.words.specs.Writing.{put, Writes}
+use Rattle.text.specs.Text.{endText}
+use Rattle.words.proofs.Written.{length-put}
+use Rattle.text.proofs.Laws.{reports-small, refused-small, end-small}
 use Rattle.listing.specs.Listing.{Feed, answerText, saidOf, lineEnded, feedByte, finished, heldOf, endingOf}
 use Rattle.listing.specs.Parts.{answerMost, endingMost, Extent, takes, partOf, Parted}
 use Rattle.listing.specs.declared.Lister.{Lister}

@@ -5,7 +5,8 @@ use mathlib.Core.List.{List, [], _∷_}
 use lib.Dec.{leb, ltb}
 use lib.ListN.{length}
 use Rattle.base.specs.Choice.{if_then_else_}
-use Rattle.text.specs.Text.{reportsMost, endMost, put}
+use Rattle.words.specs.Writing.{put}
+use Rattle.text.specs.Text.{reportsMost, endMost}
 use Rattle.listing.specs.Listing.{Feed, feedByte}
 use Rattle.listing.specs.declared.Lister.{Lister}
 use Rattle.listing.specs.declared.Part.{Part}

@@ -13,7 +13,7 @@ use Rattle.lines.specs.Lines.{freshReading, isEmpty}
 use Rattle.lines.specs.Quick.{rowOf}
 use Rattle.lines.specs.declared.Reading.{Reading}
 use Rattle.lines.specs.declared.Row.{Row}
-use Rattle.text.specs.Text.{Puts}
+use Rattle.words.specs.Writing.{Puts}
 use Rattle.listing.specs.Listing.{stepped, saidOf, finished}
 use Rattle.listing.specs.Parts.{answerMost, takes}
 use Rattle.listing.specs.declared.Lister.{Lister}

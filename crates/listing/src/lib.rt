@@ -2,7 +2,7 @@
 ghost use mathlib.Core.Path.{_≡_};
 ghost use Prim.Native.Nat.{_+_, _≤_};
 ghost use lib.ListN.{length, drop};
-ghost use Rattle.text.specs.Text.{Puts, Writes};
+ghost use Rattle.words.specs.Writing.{Puts, Writes};
 ghost use Rattle.lines.specs.Getting.{gotOf};
 ghost use Rattle.listing.specs.Listing.{freshLister, answerText, heldOf, endingOf};
 ghost use Rattle.listing.specs.Parts.{answerMost, endingMost, Parted};

@@ -1,5 +1,3 @@
-pub mod Spelling
 pub mod Laws
 pub mod Parts
-pub mod Numbers
 pub mod One

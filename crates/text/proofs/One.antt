@@ -3,16 +3,13 @@ use mathlib.Core.List.{List}
 use Prim.Native.Nat.{ℕ, _+_}
 use lib.ListN.{length}
 use Rattle.base.specs.Choice.{if_then_else_}
-use Rattle.base.proofs.One.{Only, only-both}
+use Rattle.base.proofs.One.{Only}
+use Rattle.words.proofs.One.{writes}
 use Rattle.reports.specs.Reporting.{listed}
 use Rattle.reports.specs.declared.Counts.{Counts}
 use Rattle.reports.specs.declared.Reports.{Reports}
-use Rattle.text.specs.Text.{headText, reportsText, refusedText, endText, headMost, reportsMost, refusedMost, endMost, put, fits, Writes}
-
--- the promise fixes both, whatever the text
-writes : (p : List ℕ) (most at : ℕ) (out : List ℕ) → Only (λ (x : ℕ × List ℕ). Writes p most at out (x .0) (x .1))
-writes p most at out =
-    only-both (if fits at most out then at + length p else at) (if fits at most out then put at p out else out) (λ x w. (w .place, w .memory))
+use Rattle.words.specs.Writing.{put, fits, Writes}
+use Rattle.text.specs.Text.{headText, reportsText, refusedText, endText, headMost, reportsMost, refusedMost, endMost}
 
 pub put-head : (at : ℕ) (out : List ℕ) → Only (λ (x : ℕ × List ℕ). Writes headText headMost at out (x .0) (x .1))
 put-head at out = writes headText headMost at out

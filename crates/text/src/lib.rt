@@ -1,48 +1,37 @@
 // The lines of a listing, written into a lent buffer at a place. Each function answers the place
 // after what it wrote. Where the buffer has fewer bytes from that place on than the bound that stands
 // at the function, which no such text exceeds, it writes nothing and answers the place itself.
-mod writing;
-
 ghost use mathlib.Core.List.{_∷_, []};
 ghost use Prim.Native.Nat.{_+_, _*_, _≤_};
 ghost use lib.ListN.{length};
 ghost use Rattle.reports.specs.Reporting.{listed};
+ghost use Rattle.words.specs.Writing.{numberMost, Puts, Writes};
 ghost use Rattle.text.specs.Text.{spacedText, lineText, headText, reportText, reportsText, refusedText, endText};
-ghost use Rattle.text.specs.Text.{numberMost, headMost, lineMost, reportsMost, refusedMost, endMost, Puts, Writes};
+ghost use Rattle.text.specs.Text.{headMost, lineMost, reportsMost, refusedMost, endMost};
 use reports::Counts;
 use reports::Report;
 use reports::Reports;
 
-const SPACE: u8 = 32;
-
-const LINE_FEED: u8 = 10;
-
-// The room for a text, the most bytes that it has: for a number with the byte after it, ..
-const NUMBER_MOST: usize = 21;
-
-// .. the header, ..
+// The room for a text, the most bytes that it has: for the header, ..
 pub const HEAD_MOST: usize = 31;
 
 // .. a report's line, of five numbers, ..
-const LINE_MOST: usize = 5 * NUMBER_MOST;
+const LINE_MOST: usize = 5 * words::NUMBER_MOST;
 
 // .. the lines of an event's reports, ..
 pub const REPORTS_MOST: usize = reports::PLACES * LINE_MOST;
 
 // .. a refused line's, a word and a number, ..
-pub const REFUSED_MOST: usize = 8 + NUMBER_MOST;
+pub const REFUSED_MOST: usize = 8 + words::NUMBER_MOST;
 
 // .. and the end line, a word and eight numbers.
-pub const END_MOST: usize = 4 + 8 * NUMBER_MOST;
+pub const END_MOST: usize = 4 + 8 * words::NUMBER_MOST;
 
 // The header: HEAD_MOST bytes.
 pub fn put_head(out: &mut [u8], at: usize) -> usize
     ensures { λ r. ⌜ Writes headText headMost at (now (out .entry)) r (now (out .exit)) ⌝ }
 {
-    if !writing::has_room(out.len(), at, HEAD_MOST) {
-        return at;
-    }
-    writing::put_text(out, at, b"report reason first bytes time\n")
+    words::put_text(out, at, b"report reason first bytes time\n")
 }
 
 // A report's line, of at most LINE_MOST bytes.
@@ -50,11 +39,11 @@ fn put_report(out: &mut [u8], at: usize, x: Report) -> usize
     requires { ⌜ at + lineMost ≤ length (now out) ⌝ }
     ensures { λ r. ⌜ Puts at (reportText x) lineMost (now (out .entry)) r (now (out .exit)) ⌝ }
 {
-    let a = writing::put_number(out, at, x.number as u64, SPACE);
-    let b = writing::put_number(out, a, x.reason as u64, SPACE);
-    let c = writing::put_number(out, b, x.first, SPACE);
-    let d = writing::put_number(out, c, x.bytes, SPACE);
-    writing::put_number(out, d, x.time.0, LINE_FEED)
+    let a = words::put_number(out, at, x.number as u64, words::SPACE);
+    let b = words::put_number(out, a, x.reason as u64, words::SPACE);
+    let c = words::put_number(out, b, x.first, words::SPACE);
+    let d = words::put_number(out, c, x.bytes, words::SPACE);
+    words::put_number(out, d, x.time.0, words::LINE_FEED)
 }
 
 // One report or more, where there is room.
@@ -84,7 +73,7 @@ pub fn put_reports(out: &mut [u8], at: usize, rs: Reports) -> usize
     if rs.n == 0 {
         return at;
     }
-    if !writing::has_room(out.len(), at, REPORTS_MOST) {
+    if !words::has_room(out.len(), at, REPORTS_MOST) {
         return at;
     }
     write_reports(out, at, rs)
@@ -95,15 +84,15 @@ fn write_refusal(out: &mut [u8], at: usize, no: u8) -> usize
     requires { ⌜ at + refusedMost ≤ length (now out) ⌝ }
     ensures { λ r. ⌜ Puts at (refusedText no) refusedMost (now (out .entry)) r (now (out .exit)) ⌝ }
 {
-    let a = writing::put_text(out, at, b"refused ");
-    writing::put_number(out, a, no as u64, LINE_FEED)
+    let a = words::put_text(out, at, b"refused ");
+    words::put_number(out, a, no as u64, words::LINE_FEED)
 }
 
 // The line of a refused line: at most REFUSED_MOST bytes.
 pub fn put_refusal(out: &mut [u8], at: usize, no: u8) -> usize
     ensures { λ r. ⌜ Writes (refusedText no) refusedMost at (now (out .entry)) r (now (out .exit)) ⌝ }
 {
-    if !writing::has_room(out.len(), at, REFUSED_MOST) {
+    if !words::has_room(out.len(), at, REFUSED_MOST) {
         return at;
     }
     write_refusal(out, at, no)
@@ -115,11 +104,11 @@ fn put_byte_counts(out: &mut [u8], at: usize, c: Counts) -> usize
     ensures { λ r. ⌜ Puts at (spacedText (c .heard ∷ c .framed ∷ c .damaged ∷ c .started ∷ c .outside ∷ [])) (5 * numberMost)
         (now (out .entry)) r (now (out .exit)) ⌝ }
 {
-    let a = writing::put_number(out, at, c.heard, SPACE);
-    let b = writing::put_number(out, a, c.framed, SPACE);
-    let d = writing::put_number(out, b, c.damaged, SPACE);
-    let e = writing::put_number(out, d, c.started, SPACE);
-    writing::put_number(out, e, c.outside, SPACE)
+    let a = words::put_number(out, at, c.heard, words::SPACE);
+    let b = words::put_number(out, a, c.framed, words::SPACE);
+    let d = words::put_number(out, b, c.damaged, words::SPACE);
+    let e = words::put_number(out, d, c.started, words::SPACE);
+    words::put_number(out, e, c.outside, words::SPACE)
 }
 
 // The rest of the end line: the counts of reports, and the bytes held.
@@ -127,9 +116,9 @@ fn put_report_counts(out: &mut [u8], at: usize, c: Counts, held: u64) -> usize
     requires { ⌜ at + 3 * numberMost ≤ length (now out) ⌝ }
     ensures { λ r. ⌜ Puts at (lineText (c .frames ∷ c .damages ∷ held ∷ [])) (3 * numberMost) (now (out .entry)) r (now (out .exit)) ⌝ }
 {
-    let a = writing::put_number(out, at, c.frames, SPACE);
-    let b = writing::put_number(out, a, c.damages, SPACE);
-    writing::put_number(out, b, held, LINE_FEED)
+    let a = words::put_number(out, at, c.frames, words::SPACE);
+    let b = words::put_number(out, a, c.damages, words::SPACE);
+    words::put_number(out, b, held, words::LINE_FEED)
 }
 
 // The end line, where there is room.
@@ -137,7 +126,7 @@ fn write_end(out: &mut [u8], at: usize, c: Counts, held: u64) -> usize
     requires { ⌜ at + endMost ≤ length (now out) ⌝ }
     ensures { λ r. ⌜ Puts at (endText c held) endMost (now (out .entry)) r (now (out .exit)) ⌝ }
 {
-    let a = writing::put_text(out, at, b"end ");
+    let a = words::put_text(out, at, b"end ");
     let b = put_byte_counts(out, a, c);
     put_report_counts(out, b, c, held)
 }
@@ -146,7 +135,7 @@ fn write_end(out: &mut [u8], at: usize, c: Counts, held: u64) -> usize
 pub fn put_end(out: &mut [u8], at: usize, c: Counts, held: u64) -> usize
     ensures { λ r. ⌜ Writes (endText c held) endMost at (now (out .entry)) r (now (out .exit)) ⌝ }
 {
-    if !writing::has_room(out.len(), at, END_MOST) {
+    if !words::has_room(out.len(), at, END_MOST) {
         return at;
     }
     write_end(out, at, c, held)

@@ -4,7 +4,7 @@ use mathlib.Core.Bool.{Bool}
 use Rattle.base.proofs.One.{Only, only}
 use Rattle.keys.specs.declared.Pair.{Pair}
 use Rattle.units.specs.declared.Micros.{Micros}
-use Rattle.timing.specs.Timing.{untilTime, noLimit, isUnlimited, isPassed, setOf, decodedOf, encodedOf}
+use Rattle.timing.specs.Timing.{untilTime, noLimit, isUnlimited, timeOf, isPassed, setOf, decodedOf, encodedOf}
 use Rattle.timing.specs.declared.Limit.{Limit}
 use Rattle.timing.specs.declared.Windows.{Windows}
 use Rattle.timing.specs.declared.Codes.{Codes}
@@ -19,6 +19,9 @@ no-limit = only noLimit
 
 pub is-unlimited : (l : Limit) → Only (λ (r : Bool). r ≡ isUnlimited l)
 is-unlimited l = only (isUnlimited l)
+
+pub time-of : (l : Limit) → Only (λ (r : Micros). r ≡ timeOf l)
+time-of l = only (timeOf l)
 
 pub passed : (l : Limit) (gap : Micros) → Only (λ (r : Bool). r ≡ isPassed l gap)
 passed l gap = only (isPassed l gap)

@@ -34,6 +34,10 @@ noLimit = untilTime (micros 18_446_744_073_709_551_615)
 unfoldable pub isUnlimited : Limit → Bool
 isUnlimited l = eqb (l .0 .0) 18_446_744_073_709_551_615
 
+-- its time, for who shows it: 0 of no limit, whose number nobody sees
+unfoldable pub timeOf : Limit → Micros
+timeOf l = if isUnlimited l then micros 0 else l .0
+
 -- | ms                            | P1      | P2         | P3           | P4      |
 -- | normal (ISO 14230-2, table 3) | 0 to 20 | 25 to 50   | 55 to 5,000  | 5 to 20 |
 -- | extended (document 01's own)  | 0 to 20 | 0 to 1,000 | 5.5 to 5,000 | 5 to 20 |

@@ -1,6 +1,6 @@
 // Timing windows, the five codes that change them, and the sets that key bytes name.
 ghost use mathlib.Core.Path.{_≡_};
-ghost use Rattle.timing.specs.Timing.{untilTime, noLimit, isUnlimited, isPassed, isBelow, normalSet, extendedSet, quickSet, namedSet, setOf, isAllowed};
+ghost use Rattle.timing.specs.Timing.{untilTime, noLimit, isUnlimited, timeOf, isPassed, isBelow, normalSet, extendedSet, quickSet, namedSet, setOf, isAllowed};
 ghost use Rattle.timing.specs.Timing.{minOf, p2MaxOf, p3MaxOf, windowsBy, notDecoded, decodedOf};
 ghost use Rattle.timing.specs.Timing.{minCode, p2StepsCode, p2Code, p3Code, codesBy, sameWindows, notEncoded, encodedOf};
 
@@ -12,7 +12,7 @@ use units::Micros;
 use units::Step25;
 
 // The end of a window: a time, or no limit. Its number is nobody else's business: it is made by
-// `until` and `no_limit`, and asked by `passed`.
+// `until` and `no_limit`, and asked by `passed`; `time_of` gives the time of one that has a time.
 pub struct Limit(Micros);
 
 // The windows that codes can change. P1 is 0 to 20 ms and P4 max is 20 ms, always.
@@ -71,6 +71,16 @@ pub fn is_unlimited(l: Limit) -> bool
     ensures { λ r. ⌜ r ≡ isUnlimited l ⌝ }
 {
     units::same(l.0, Micros(ENDLESS))
+}
+
+// The time of a window's end, and 0 where it has none.
+pub fn time_of(l: Limit) -> Micros
+    ensures { λ r. ⌜ r ≡ timeOf l ⌝ }
+{
+    if is_unlimited(l) {
+        return Micros(0);
+    }
+    l.0
 }
 
 // Whether a window's end has passed after a gap. One without an end never passes: no number of

@@ -1,6 +1,6 @@
 -- `text::put_byte_counts` meets its contract: five numbers, one after another. Assumes nothing.
 use Rattle.text.specs.Text.{spacedText}
-use Rattle.text.proofs.Parts.{puts-five, puts-last}
+use Rattle.text.proofs.Parts.{puts-spaced}
 use borrow.Author.Needs.{needs}
 use Rattle.text.proofs.put_byte_counts.Statement.{statement}
 use Rattle.text.proofs.put_byte_counts.Tie as tie
@@ -31,8 +31,7 @@ returns c =
     let g = d .before .before .before .before in
     let b = g .before .before .before .before in
     let a = b .before .before .before .before in
-    puts-five _ _ _ _ _ _ _ _ _ _ _ _ _ _ _ _ _ (search needs) (a .put-number .ensures) (b .put-number2 .ensures) (g .put-number3 .ensures) (d .put-number4 .ensures)
-    (puts-last _ _ _ _ _ _ (e .put-number5 .ensures))
+    puts-spaced _ _ _ _ _ _ _ _ _ _ _ _ _ _ _ _ _ _ _ _ _ _ (search needs) (a .put-number .ensures) (b .put-number2 .ensures) (g .put-number3 .ensures) (d .put-number4 .ensures) (e .put-number5 .ensures)
 
 pub put-byte-counts-spec : {M : Type 1} → statement M
 put-byte-counts-spec =

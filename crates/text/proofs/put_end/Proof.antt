@@ -1,7 +1,6 @@
 -- `text::put_end` meets its contract: where there is no room nothing is written, and otherwise `write_end` has put the line there. Assumes nothing.
 use borrow.Author.Needs.{needs}
-use Rattle.text.proofs.Laws.{puts-writes}
-use Rattle.text.proofs.Parts.{room-there, no-room}
+use Rattle.words.proofs.Written.{puts-writes, room-there, no-room}
 use Rattle.text.proofs.put_end.Statement.{statement}
 use Rattle.text.proofs.put_end.Tie as tie
 

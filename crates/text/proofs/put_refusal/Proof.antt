@@ -1,8 +1,7 @@
 -- `text::put_refusal` meets its contract: where there is no room nothing is written, and otherwise `write_refusal` has put the line there.
 -- Assumes nothing.
 use borrow.Author.Needs.{needs}
-use Rattle.text.proofs.Laws.{puts-writes}
-use Rattle.text.proofs.Parts.{room-there, no-room}
+use Rattle.words.proofs.Written.{puts-writes, room-there, no-room}
 use Rattle.text.proofs.put_refusal.Statement.{statement}
 use Rattle.text.proofs.put_refusal.Tie as tie
 

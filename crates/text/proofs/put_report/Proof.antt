@@ -37,7 +37,7 @@ returns c =
     let g = d .before .before .before .before in
     let b = g .before .before .before .before in
     let a = b .before .before .before .before .before in
-    puts-five _ _ _ _ _ _ _ _ _ _ _ _ _ _ _ _ _ (search needs) (a .put-number .ensures) (b .put-number2 .ensures) (g .put-number3 .ensures) (d .put-number4 .ensures) (e .put-number5 .ensures)
+    puts-five _ _ _ _ _ _ _ _ _ _ _ _ _ _ _ _ _ _ _ _ _ _ (search needs) (a .put-number .ensures) (b .put-number2 .ensures) (g .put-number3 .ensures) (d .put-number4 .ensures) (e .put-number5 .ensures)
 
 pub put-report-spec : {M : Type 1} → statement M
 put-report-spec =

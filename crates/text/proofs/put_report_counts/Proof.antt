@@ -23,7 +23,7 @@ returns c =
     let d = c .before .before in
     let b = d .before .before .before .before in
     let a = b .before .before .before .before in
-    puts-three _ _ _ _ _ _ _ _ _ _ _ (search needs) (a .put-number .ensures) (b .put-number2 .ensures) (d .put-number3 .ensures)
+    puts-three _ _ _ _ _ _ _ _ _ _ _ _ _ _ (search needs) (a .put-number .ensures) (b .put-number2 .ensures) (d .put-number3 .ensures)
 
 pub put-report-counts-spec : {M : Type 1} → statement M
 put-report-counts-spec =

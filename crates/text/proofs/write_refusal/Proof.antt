@@ -1,7 +1,7 @@
 -- `text::write_refusal` meets its contract: the word, and the number after it. Assumes nothing.
 use borrow.Author.Needs.{needs}
 use Rattle.text.specs.Text.{lineText, refusedText}
-use Rattle.text.proofs.Laws.{puts-join}
+use Rattle.text.proofs.Parts.{puts-word}
 use Rattle.text.proofs.write_refusal.Statement.{statement}
 use Rattle.text.proofs.write_refusal.Tie as tie
 
@@ -22,7 +22,7 @@ unfolding refusedText lineText
 returns c =
     let b = c .before .before in
     let a = b .before .before .before .before in
-    puts-join _ _ _ 8 21 _ _ _ _ _ (search needs) (a .put-text .ensures) (b .put-number .ensures)
+    puts-word _ _ _ _ _ _ _ _ _ (a .before .before .before .before .pre) (a .put-text .ensures) (b .put-number .ensures)
 
 pub write-refusal-spec : {M : Type 1} → statement M
 write-refusal-spec =

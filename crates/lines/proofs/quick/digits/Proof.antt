@@ -5,7 +5,7 @@ use mathlib.Core.Bool.{true, false}
 use lib.ListN.{length, getD}
 use native.Mathlib.Omega.{arith}
 use borrow.Author.Needs.{needs}
-use Rattle.lines.specs.Lines.{isDigit}
+use Rattle.words.specs.Digits.{isDigit}
 use Rattle.lines.specs.Quick.{digitsAt}
 use Rattle.lines.proofs.Laws.{below, more, digits-on, digits-stop, digits-end, low-digit, no-digit}
 use Rattle.lines.proofs.quick.digits.Statement.{statement}

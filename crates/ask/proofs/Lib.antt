@@ -1,0 +1,3 @@
+-- The laws of the lent buffers.
+pub mod Filled
+pub mod Built
