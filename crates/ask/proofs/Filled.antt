@@ -1,10 +1,10 @@
 -- Laws of a buffer that is filled, and looked through. Assumes nothing.
 use Prim.Native.Nat.{ℕ, _+_, _≤_, _<_}
-use mathlib.Core.Path.{_≡_, refl, sym, _∙_}
+use mathlib.Core.Path.{_≡_, _∙_}
 use mathlib.Core.Bool.{true, false}
-use mathlib.Core.List.{List, [], _∷_, _++_, append-nil}
+use mathlib.Core.List.{List, append-nil}
 use lib.Dec.{eqb}
-use lib.ListN.{length, getD, take, drop, set, replicate, length-replicate, replicate-append-replicate, drop-of-length-le}
+use lib.ListN.{length, getD, drop, set, replicate, length-replicate, replicate-append-replicate, drop-of-length-le}
 use native.Mathlib.Omega.{arith}
 use Rattle.words.specs.Writing.{put}
 use Rattle.words.proofs.Pairs.{put-on}

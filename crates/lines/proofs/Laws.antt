@@ -9,7 +9,7 @@ use borrow.Author.Tests.{leb-true, le-leb, lt-leb, ltb-true}
 use native.Mathlib.Omega.{arith}
 use native.Mathlib.Nat.{pow-le-pow-right, pow-succ'}
 use Rattle.base.proofs.Tests.{and-split}
-use Rattle.words.specs.Digits.{isDigit, isCapital}
+use Rattle.words.specs.Digits.{isDigit}
 use Rattle.lines.specs.Lines.{takesDigit}
 use Rattle.lines.specs.Quick.{digitsAt}
 use Rattle.lines.specs.declared.Reading.{Reading}

@@ -4,7 +4,7 @@
 use Prim.Native.Nat.{ℕ, _+_, _-_, _*_, _%_}
 use mathlib.Core.Bool.{Bool, true, false, _&&_}
 use mathlib.Core.List.{List, [], _∷_}
-use lib.Dec.{eqb, leb, ltb}
+use lib.Dec.{eqb, ltb}
 use Rattle.base.specs.Choice.{if_then_else_}
 use Rattle.base.specs.Sums.{byteSum}
 use Rattle.words.specs.Digits.{isDigit, hexOf}

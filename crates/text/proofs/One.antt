@@ -1,14 +1,12 @@
 -- Any two results that meet a public function's promise are equal, and so is the memory that they leave. Assumes nothing.
 use mathlib.Core.List.{List}
-use Prim.Native.Nat.{ℕ, _+_}
-use lib.ListN.{length}
-use Rattle.base.specs.Choice.{if_then_else_}
+use Prim.Native.Nat.{ℕ}
 use Rattle.base.proofs.One.{Only}
 use Rattle.words.proofs.One.{writes}
 use Rattle.reports.specs.Reporting.{listed}
 use Rattle.reports.specs.declared.Counts.{Counts}
 use Rattle.reports.specs.declared.Reports.{Reports}
-use Rattle.words.specs.Writing.{put, fits, Writes}
+use Rattle.words.specs.Writing.{Writes}
 use Rattle.text.specs.Text.{headText, reportsText, refusedText, endText, headMost, reportsMost, refusedMost, endMost}
 
 pub put-head : (at : ℕ) (out : List ℕ) → Only (λ (x : ℕ × List ℕ). Writes headText headMost at out (x .0) (x .1))

@@ -1,6 +1,7 @@
 // Timing windows, the five codes that change them, and the sets that key bytes name.
 ghost use mathlib.Core.Path.{_≡_};
-ghost use Rattle.timing.specs.Timing.{untilTime, noLimit, isUnlimited, timeOf, isPassed, isBelow, normalSet, extendedSet, quickSet, namedSet, setOf, isAllowed};
+ghost use Rattle.timing.specs.Timing.{untilTime, noLimit, isUnlimited, timeOf, isPassed, isBelow};
+ghost use Rattle.timing.specs.Timing.{normalSet, extendedSet, quickSet, namedSet, setOf, isAllowed};
 ghost use Rattle.timing.specs.Timing.{minOf, p2MaxOf, p3MaxOf, windowsBy, notDecoded, decodedOf};
 ghost use Rattle.timing.specs.Timing.{minCode, p2StepsCode, p2Code, p3Code, codesBy, sameWindows, notEncoded, encodedOf};
 

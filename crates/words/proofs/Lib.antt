@@ -5,4 +5,5 @@ pub mod Written
 pub mod Numbers
 pub mod Pairs
 pub mod Runs
+pub mod Back
 pub mod One

@@ -1,6 +1,4 @@
 -- `words::reading::has_next` meets its contract: ten times the front of the greatest number leaves room for its last digit. Assumes nothing.
-use mathlib.Core.Path.{_≡_, refl, sym, _∙_}
-use native.Mathlib.Omega.{arith}
 use Rattle.words.proofs.Runs.{at-front, off-front}
 use Rattle.words.proofs.reading.has_next.Statement.{statement}
 use Rattle.words.proofs.reading.has_next.Tie as tie

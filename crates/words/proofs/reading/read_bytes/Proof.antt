@@ -1,7 +1,6 @@
 -- `words::reading::read_bytes` meets its contract: the digits that were counted are decoded. Assumes nothing.
-use mathlib.Core.Path.{refl}
 use borrow.Author.Needs.{needs}
-use Rattle.words.proofs.Runs.{Inside, read-inside, read-there}
+use Rattle.words.proofs.Runs.{read-inside, read-there}
 use Rattle.words.proofs.reading.read_bytes.Statement.{statement}
 use Rattle.words.proofs.reading.read_bytes.Tie as tie
 

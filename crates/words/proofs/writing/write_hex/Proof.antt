@@ -1,12 +1,11 @@
 -- `words::writing::write_hex` meets its contract: each turn writes the two digits of a byte after those before it. Assumes nothing.
 use Prim.Native.Nat.{_+_, _*_, _-_, _≤_}
-use mathlib.Core.Path.{_≡_, refl, sym, _∙_}
+use mathlib.Core.Path.{_≡_, refl, _∙_}
 use lib.ListN.{length, take, set, length-set}
 use lib.Seq.{take-all}
 use native.Mathlib.Omega.{arith}
 use borrow.Author.Needs.{needs}
 use Rattle.words.specs.Writing.{hexText, put}
-use Rattle.words.proofs.Written.{put-nil}
 use Rattle.words.proofs.Pairs.{spelled-on, hex-none}
 use Rattle.words.proofs.writing.write_hex.Statement.{statement}
 use Rattle.words.proofs.writing.write_hex.Tie as tie
