@@ -1,4 +1,4 @@
--- A buffer that a question lends. Assumes nothing.
+-- A buffer that a question lends (in quotation marks: README, "Questions"). Assumes nothing.
 use Prim.Native.Nat.{ℕ}
 use mathlib.Core.Bool.{Bool, true, false}
 use mathlib.Core.List.{List, [], _∷_}

@@ -1,5 +1,5 @@
-// Buffers: those of which a question needs so many bytes, and one that it lends, which is filled before
-// the call and looked at after it.
+// Buffers of so many bytes. The one that a question lends is filled before the call, and looked at
+// after it.
 ghost use mathlib.Core.Path.{_≡_};
 ghost use lib.ListN.{length, replicate, drop};
 ghost use Rattle.ask.specs.Lent.{filling, isUntouched};

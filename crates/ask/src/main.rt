@@ -1,8 +1,6 @@
 // Answers questions: a question a line from standard input, or one question as the words of the
-// command line; an answer a line to standard output. It keeps no more than a line and some 64 KiB
-// of what it reads and writes.
-ghost use Prim.Native.Nat.{_+_, _≤_};
-ghost use lib.ListN.{length};
+// command line; an answer a line to standard output. It keeps no more than a line, 64 KiB of what it
+// has read and 64 KiB of what it will write.
 ghost use Rattle.io.specs.Counts.{Counts};
 use libc::STDIN_FILENO;
 use libc::STDOUT_FILENO;
@@ -10,9 +8,11 @@ use libc::STDOUT_FILENO;
 mod lent;
 mod questions;
 
-// So many bytes of answers are written out. Twice as many have room, and no answer has more than the
-// other half.
-const FULL: usize = 32_768;
+// The most bytes of an answer, its line feed among them: a question that has longer ones raises it.
+const ANSWER_MOST: usize = 600;
+
+// Where more bytes of answers wait, there might be no room for one more.
+const FULL: usize = 65_536 - ANSWER_MOST;
 
 // How far it is: how many bytes of the line at hand were heard (one more than it may have, where it is
 // too long), how many bytes of answers wait, and whether all before them went out.
@@ -69,7 +69,7 @@ fn hear(b: u8, a: Asked, line: &mut [u8], out: &mut [u8]) -> Asked {
         };
     }
     let n = reply(line, a.heard, out, a.waiting);
-    if n < FULL {
+    if n <= FULL {
         return Asked {
             heard: 0,
             waiting: n,

@@ -1,5 +1,6 @@
 // The questions. Each reads its words one after another, asks the function that it is about, and
-// writes the answer. A question of another kind is a function like these, and two lines of `answer`.
+// writes the answer. One more question is a function like these, and four lines of `answer` or of
+// one that `answer` goes on to.
 use crate::lent;
 use keys::Pair;
 use timing::Codes;
@@ -285,20 +286,8 @@ fn ask_minus(s: &[u8], from: usize, out: &mut [u8], at: usize) -> usize {
     words::put_byte(out, a, starts::inverse(x.value), LINE_FEED)
 }
 
-// The answer to a line, by its first word.
-pub(crate) fn answer(s: &[u8], out: &mut [u8], at: usize) -> usize {
-    let good = words::read_first(s, b"good");
-    if 0 < good {
-        return ask_good(s, good, out, at);
-    }
-    let build = words::read_first(s, b"build");
-    if 0 < build {
-        return ask_build(s, build, out, at);
-    }
-    let read = words::read_first(s, b"read");
-    if 0 < read {
-        return ask_read(s, read, out, at);
-    }
+// The answer to a line about timing or a start, by its first word.
+fn answer_timing(s: &[u8], out: &mut [u8], at: usize) -> usize {
     let codes = words::read_first(s, b"codes");
     if 0 < codes {
         return ask_codes(s, codes, out, at);
@@ -316,4 +305,21 @@ pub(crate) fn answer(s: &[u8], out: &mut [u8], at: usize) -> usize {
         return ask_minus(s, minus, out, at);
     }
     put_unknown(out, at)
+}
+
+// The answer to a line, by its first word.
+pub(crate) fn answer(s: &[u8], out: &mut [u8], at: usize) -> usize {
+    let good = words::read_first(s, b"good");
+    if 0 < good {
+        return ask_good(s, good, out, at);
+    }
+    let build = words::read_first(s, b"build");
+    if 0 < build {
+        return ask_build(s, build, out, at);
+    }
+    let read = words::read_first(s, b"read");
+    if 0 < read {
+        return ask_read(s, read, out, at);
+    }
+    answer_timing(s, out, at)
 }

@@ -1,6 +1,5 @@
 // A line, byte by byte.
 ghost use mathlib.Core.Path.{_≡_};
-ghost use Rattle.words.specs.Digits.{isDigit, isCapital, hexOf};
 ghost use Rattle.lines.specs.Lines.{digitOn, begun, freshReading, unreadable, lettered};
 ghost use Rattle.lines.specs.Lines.{timed, valued, spaced, sided, highRead, lowRead, takesDigit, timeRead, startRead, endRead};
 ghost use Rattle.lines.specs.Lines.{readByte, isLetter, isEmpty, isLast, isWhole, noEvent, eventOf};

@@ -12,8 +12,8 @@ use keys::Pair;
 use units::Micros;
 use units::Step25;
 
-// The end of a window: a time, or no limit. Its number is nobody else's business: it is made by
-// `until` and `no_limit`, and asked by `passed`; `time_of` gives the time of one that has a time.
+// The end of a window: a time, or no limit. How no limit is kept is nobody else's business: an end is
+// made by `until` and `no_limit`, and asked by `passed`; `time_of` gives the time of one that has one.
 pub struct Limit(Micros);
 
 // The windows that codes can change. P1 is 0 to 20 ms and P4 max is 20 ms, always.

@@ -14,7 +14,7 @@ isCapital b = leb 0x41 b && leb b 0x46
 unfoldable pub hexOf : ℕ → ℕ
 hexOf b = if isDigit b then b - 0x30 else if isCapital b then b - 0x37 else 16
 
--- ---- a question's: "either case is read, upper case is written"
+-- ---- those of a question and its answer: "either case is read, upper case is written" (README, "Questions")
 -- a to f as A to F, and any other byte as it is
 unfoldable pub raisedOf : ℕ → ℕ
 raisedOf b = if leb 0x61 b && leb b 0x66 then b - 0x20 else b
@@ -30,7 +30,7 @@ isHex b = ltb (eitherOf b) 16
 unfoldable pub pairOf : ℕ → ℕ → ℕ
 pairOf b c = eitherOf b % 16 * 16 + eitherOf c % 16
 
--- the digit that is written for a number, by what is left of it above sixteens
+-- the last hex digit of a number, as it is written
 unfoldable pub glyphOf : ℕ → ℕ
 glyphOf n = if ltb (n % 16) 10 then 48 + n % 16 else 55 + n % 16
 

@@ -1,5 +1,5 @@
 -- Words read at a place of a line. A word other than the first is read with the space before it, so that a place is where one word has ended and the
--- next begins with its space. 0 is the place of what was not read: nothing is read from there on.
+-- next begins with its space. 0 is the place of what was not read: nothing is read from there on. In quotation marks: README, "Questions".
 -- Assumes nothing.
 use Prim.Native.Nat.{ℕ, zero, suc, _+_, _-_, _*_, _/_, _%_}
 use mathlib.Core.Path.{_≡_}
@@ -25,20 +25,21 @@ startOf s at = if ltb 0 at && eqb (getD s at 0) space then at + 1 else 0
 unfoldable pub isEnd : List ℕ → ℕ → Bool
 isEnd s at = ltb 0 at && eqb at (length s)
 
--- ---- a word by its letters
+-- ---- letters
 unfoldable pub startsWith : List ℕ → List ℕ → Bool
 startsWith [] s = true
 startsWith (b ∷ bs) [] = false
 startsWith (b ∷ bs) (c ∷ cs) = if eqb b c then startsWith bs cs else false
 
--- the first word of a line, and one after another
+-- the place after these letters, at the front of a line and at a word's place. That the word ends with them is seen by what is read next, which begins
+-- with a space, or by `isEnd`.
 unfoldable pub firstWord : List ℕ → List ℕ → ℕ
 firstWord s name = if startsWith name s then length name else 0
 
 unfoldable pub wordAt : List ℕ → ℕ → List ℕ → ℕ
 wordAt s at name = if ltb 0 (startOf s at) && startsWith name (drop (startOf s at) s) then startOf s at + length name else 0
 
--- ---- "`HH` is a byte as two hex digits"
+-- ---- "two hex digits"
 abbrev pub noByte : ByteWord
 noByte = record { value = 0; to = 0 }
 
@@ -55,7 +56,7 @@ unfoldable pub runOf : (ℕ → Bool) → List ℕ → ℕ
 runOf test [] = 0
 runOf test (b ∷ bs) = if test b then suc (runOf test bs) else 0
 
--- ---- "`N` a decimal number"
+-- ---- "decimal numbers"
 -- what the digits at the front say after n: each counts ten times what stands before it, and itself
 unfoldable pub numberBy : ℕ → List ℕ → ℕ
 numberBy n [] = n
@@ -73,7 +74,7 @@ held n to = record { value = if leb n greatest then n else 0; fits = leb n great
 unfoldable pub digitsAt : List ℕ → ℕ → Digits
 digitsAt s w = held (numberBy 0 (drop w s)) (w + runOf isDigit (drop w s))
 
--- "Numbers that don't fit their argument's type are `?`": a number is read if it is `most` or less
+-- "a number that is too large for its place" is not read: one that is `most` or less is
 abbrev pub noNumber : NumberWord
 noNumber = record { value = 0; to = 0 }
 
@@ -85,7 +86,7 @@ numberIn w most d =
 unfoldable pub numberAt : List ℕ → ℕ → ℕ → NumberWord
 numberAt s at most = numberIn (startOf s at) most (digitsAt s (startOf s at))
 
--- ---- "`HEX` a run of hex digit pairs or `-` for none"
+-- ---- "any number of pairs of them, or `-` for none"
 -- how many bytes stand at w, `most` or fewer, and the place after them
 abbrev pub noBytes : BytesWord
 noBytes = record { len = 0; to = 0 }

@@ -67,7 +67,7 @@ pub(crate) fn pair(b: u8, c: u8) -> u8
     nibble(b) * 16 + nibble(c)
 }
 
-// The digit that is written for a number, by what is left of it above sixteens.
+// The last hex digit of a number, as it is written.
 pub(crate) fn glyph(n: u8) -> u8
     ensures { λ r. ⌜ r ≡ glyphOf n ⌝ }
 {

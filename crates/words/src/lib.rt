@@ -24,6 +24,9 @@ pub const SPACE: u8 = 32;
 // The byte after a line.
 pub const LINE_FEED: u8 = 10;
 
+// What stands for no bytes at all.
+const DASH: u8 = 45;
+
 // The room for a number with the byte after it, the most bytes that these have.
 pub const NUMBER_MOST: usize = 21;
 

@@ -13,12 +13,10 @@ ghost use Rattle.words.specs.Reading.{startOf, isEnd, startsWith, firstW
 ghost use Rattle.words.specs.Reading.{withDigit, digitsAt, noNumber, numberAt, runOf, noBytes, pairsIn, bytesAt, pairs, ReadsBytes};
 use crate::ByteWord;
 use crate::BytesWord;
+use crate::DASH;
 use crate::NumberWord;
 use crate::SPACE;
 use crate::digits;
-
-// The byte that stands for no bytes at all.
-const DASH: u8 = 45;
 
 // The greatest number, without its last digit; and that digit.
 const GREATEST_FRONT: u64 = 1_844_674_407_370_955_161;
@@ -90,7 +88,8 @@ fn starts_with(s: &[u8], from: usize, name: &[u8]) -> bool
     true
 }
 
-// The line's first word, by its letters, which are not none.
+// The place after these letters at the front of the line. That the word ends there is seen by what is
+// read next.
 pub fn read_first(s: &[u8], name: &[u8]) -> usize
     ensures { λ r. ⌜ r ≡ firstWord (now (s .entry)) (now (name .entry)) ⌝ }
 {
@@ -100,7 +99,7 @@ pub fn read_first(s: &[u8], name: &[u8]) -> usize
     0
 }
 
-// A word by its letters.
+// The place after these letters where the next word starts.
 pub fn read_word(s: &[u8], at: usize, name: &[u8]) -> usize
     ensures { λ r. ⌜ r ≡ wordAt (now (s .entry)) at (now (name .entry)) ⌝ }
 {

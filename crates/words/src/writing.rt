@@ -7,11 +7,9 @@ ghost use mathlib.Core.List.{[], _∷_, _++_};
 ghost use lib.Dec.{leb};
 ghost use lib.ListN.{length};
 ghost use Rattle.words.specs.Writing.{digitCount, digitsOf, numberText, numberMost, hexText, byteText, bytesText, put, Writes, Puts};
+use crate::DASH;
 use crate::NUMBER_MOST;
 use crate::digits;
-
-// What is written for no bytes at all.
-const DASH: u8 = 45;
 
 // Does a buffer of so many bytes have `most` bytes or more from `at` on?
 pub fn has_room(len: usize, at: usize, most: usize) -> bool
