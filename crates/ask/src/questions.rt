@@ -16,9 +16,15 @@ const ROOM_MOST: u64 = 20_000;
 // The greatest number: a time of so many microseconds would stand for no limit.
 const GREATEST: u64 = 18_446_744_073_709_551_615;
 
-// Five bytes that were read, and the place after them; and five times, two of them ends of windows.
+// What was read of a question, and the place after it: five codes, all of a plan, the end of a window,
+// five windows.
 struct CodesWord {
     codes: Codes,
+    to: usize,
+}
+
+struct PlanWord {
+    plan: frame::Plan,
     to: usize,
 }
 
@@ -76,38 +82,47 @@ fn put_built(plan: frame::Plan, data: &[u8], room: &mut [u8], out: &mut [u8], at
     words::put_bytes(out, y, &room[..n], LINE_FEED)
 }
 
-// build KB1 KB2 FORM TGT SRC ROOM HEX
-fn ask_build(s: &[u8], from: usize, out: &mut [u8], at: usize) -> usize {
-    let mut data = lent::data();
-    let mut room = lent::room();
+// The key bytes, form and addresses of a frame.
+fn read_plan(s: &[u8], from: usize) -> PlanWord {
     let kb1 = words::read_byte(s, from);
     let kb2 = words::read_byte(s, kb1.to);
     let form = words::read_number(s, kb2.to, 255);
     let target = words::read_byte(s, form.to);
     let source = words::read_byte(s, target.to);
-    let size = words::read_number(s, source.to, ROOM_MOST);
+    PlanWord {
+        plan: frame::Plan {
+            kb1: kb1.value,
+            kb2: kb2.value,
+            form: form.value as u8,
+            target: target.value,
+            source: source.value,
+        },
+        to: source.to,
+    }
+}
+
+// build KB1 KB2 FORM TGT SRC ROOM HEX
+fn ask_build(s: &[u8], from: usize, out: &mut [u8], at: usize) -> usize {
+    let mut data = lent::data();
+    let mut room = lent::room();
+    let p = read_plan(s, from);
+    let size = words::read_number(s, p.to, ROOM_MOST);
     let bytes = words::read_bytes(s, size.to, &mut data);
     let n = bytes.len;
     if !words::is_end(s, bytes.to) {
         return put_unknown(out, at);
     }
-    let plan = frame::Plan {
-        kb1: kb1.value,
-        kb2: kb2.value,
-        form: form.value as u8,
-        target: target.value,
-        source: source.value,
-    };
+    let plan = p.plan;
     let k = size.value as usize;
     put_built(plan, &data[..n], &mut room[..k], out, at)
 }
 
 // The form and the addresses of a frame.
-fn put_form(out: &mut [u8], at: usize, r: frame::Reading) -> usize {
+fn put_form(out: &mut [u8], at: usize, form: u8, target: u8, source: u8) -> usize {
     let a = put_taken(out, at);
-    let b = words::put_number(out, a, r.form as u64, SPACE);
-    let c = words::put_byte(out, b, r.target, SPACE);
-    words::put_byte(out, c, r.source, SPACE)
+    let b = words::put_number(out, a, form as u64, SPACE);
+    let c = words::put_byte(out, b, target, SPACE);
+    words::put_byte(out, c, source, SPACE)
 }
 
 // Reads a frame, and answers what it carries.
@@ -116,7 +131,7 @@ fn put_reading(kb1: u8, kb2: u8, s: &[u8], out: &mut [u8], at: usize) -> usize {
     if r.no != base::TAKEN {
         return put_no(out, at, r.no);
     }
-    let a = put_form(out, at, r);
+    let a = put_form(out, at, r.form, r.target, r.source);
     let b = words::put_number(out, a, r.start as u64, SPACE);
     let c = words::put_number(out, b, r.len as u64, SPACE);
     words::put_bytes(out, c, frame::contents(kb1, kb2, s), LINE_FEED)

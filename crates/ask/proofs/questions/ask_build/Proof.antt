@@ -13,23 +13,11 @@ data-requires c κs = search needs
 room-requires : tie.Need-room-requires
 room-requires c κs = search needs
 
-read-byte-requires : tie.Need-read-byte-requires
-read-byte-requires c κs = search needs
-
-read-byte-requires-2 : tie.Need-read-byte-requires-2
-read-byte-requires-2 c κs = search needs
+read-plan-requires : tie.Need-read-plan-requires
+read-plan-requires c κs = search needs
 
 read-number-requires : tie.Need-read-number-requires
 read-number-requires c κs = search needs
-
-read-byte-requires-3 : tie.Need-read-byte-requires-3
-read-byte-requires-3 c κs = search needs
-
-read-byte-requires-4 : tie.Need-read-byte-requires-4
-read-byte-requires-4 c κs = search needs
-
-read-number-requires-2 : tie.Need-read-number-requires-2
-read-number-requires-2 c κs = search needs
 
 slice-aggregate-read-bytes : tie.Need-slice-aggregate-read-bytes
 slice-aggregate-read-bytes c = search needs
@@ -49,9 +37,6 @@ same-length c = search needs
 returns : tie.Need-returns
 returns c = search needs
 
-cast-t25 : tie.Need-cast-t25
-cast-t25 c = omega (arith, number-fits _ _ _ _ (c .before .before .before .before .before .before .before .before .before .read-number .ensures))
-
 array-share-prefix-data : tie.Need-array-share-prefix-data
 array-share-prefix-data c = read-room _ _ _ _ _ (c .before .before .before .before .read-bytes .ensures) .0
 
@@ -59,10 +44,10 @@ slice-aggregate-put-built : tie.Need-slice-aggregate-put-built
 slice-aggregate-put-built c = sym (length-take-le _ _ (read-room _ _ _ _ _ (c .before .before .before .before .before .read-bytes .ensures) .0))
 
 array-borrow-prefix-room : tie.Need-array-borrow-prefix-room
-array-borrow-prefix-room c = omega (arith, number-fits _ _ _ _ (c .before .before .before .before .before .before .before .read-number2 .ensures), c .before .before .before .before .before .before .before .before .before .before .before .before .before .room .ensures)
+array-borrow-prefix-room c = omega (arith, number-fits _ _ _ _ (c .before .before .before .before .before .before .before .read-number .ensures), c .before .before .before .before .before .before .before .before .before .room .ensures)
 
 slice-aggregate-put-built-2 : tie.Need-slice-aggregate-put-built-2
-slice-aggregate-put-built-2 c = sym (length-take-le _ _ (omega (arith, number-fits _ _ _ _ (c .before .before .before .before .before .before .before .before .read-number2 .ensures), c .before .before .before .before .before .before .before .before .before .before .before .before .before .before .room .ensures)))
+slice-aggregate-put-built-2 c = sym (length-take-le _ _ (omega (arith, number-fits _ _ _ _ (c .before .before .before .before .before .before .before .before .read-number .ensures), c .before .before .before .before .before .before .before .before .before .before .room .ensures)))
 
 put-built-requires : tie.Need-put-built-requires
 put-built-requires c κs = search needs
@@ -79,19 +64,14 @@ ask-build-spec =
     (tie.spec
     data-requires
     room-requires
-    read-byte-requires
-    read-byte-requires-2
+    read-plan-requires
     read-number-requires
-    read-byte-requires-3
-    read-byte-requires-4
-    read-number-requires-2
     slice-aggregate-read-bytes
     read-bytes-requires
     is-end-requires
     put-unknown-requires
     same-length
     returns
-    cast-t25
     array-share-prefix-data
     slice-aggregate-put-built
     array-borrow-prefix-room
