@@ -12,10 +12,7 @@ use reports::Counts;
 use reports::Report;
 use reports::Reports;
 
-// The room for a text, the most bytes that it has: for the header, ..
-pub const HEAD_MOST: usize = 31;
-
-// .. a report's line, of five numbers, ..
+// The room for a text, the most bytes that it has: for a report's line, of five numbers, ..
 const LINE_MOST: usize = 5 * words::NUMBER_MOST;
 
 // .. the lines of an event's reports, ..
@@ -27,7 +24,7 @@ pub const REFUSED_MOST: usize = 8 + words::NUMBER_MOST;
 // .. and the end line, a word and eight numbers.
 pub const END_MOST: usize = 4 + 8 * words::NUMBER_MOST;
 
-// The header: HEAD_MOST bytes.
+// The header: 31 bytes.
 pub fn put_head(out: &mut [u8], at: usize) -> usize
     ensures { λ r. ⌜ Writes headText headMost at (now (out .entry)) r (now (out .exit)) ⌝ }
 {

@@ -6,4 +6,5 @@ pub mod Numbers
 pub mod Pairs
 pub mod Runs
 pub mod Back
+pub mod Exactly
 pub mod One
