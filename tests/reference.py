@@ -1,13 +1,15 @@
 #!/usr/bin/env python3
 """Works out what the program `sweep` must print, from the rules and not from this repository's definitions.
 
-The rules are document 01's, "Key bytes", "Frames" and "Timing": they are written down here a second time, in another language and in other
-terms (tables, lists of bytes, sets of values), so that a rule misread in one place shows as a difference.
+The rules are document 01's, "Key bytes", "Frames" and "Timing", and document 02's Two: they are written down here a second time, in another language
+and in other terms (tables, lists of bytes, sets of values), so that a rule misread in one place shows as a difference.
 Use: tests/reference.py > crates/sweep/stdout, or, to compare, tests/reference.py | diff crates/sweep/stdout -
 """
 
 GOOD_KB1 = bytes.fromhex("D5D657D9DA5B5D5EDFE5E667E9EA6B6D6EEF")
 PHYSICAL, FUNCTIONAL = 1, 2
+SHORTEST, FORMAT_BYTE, EXTRA_BYTE = 0, 1, 2
+HOLDS = {FORMAT_BYTE: 63, EXTRA_BYTE: 255}
 NO_LIMIT = "no limit"
 
 
@@ -46,28 +48,28 @@ def forms_taken(kb1):
 # ---- frames
 
 
-def frame_of(kb1, form, target, source, data):
-    """The frame, or None where its length has no place."""
-    b = bits(kb1)
+def frames_of(kb1, form, target, source, data):
+    """The frames that these data can have, by where their length stands."""
     top = {0: 0b00, PHYSICAL: 0b10, FUNCTIONAL: 0b11}[form] << 6
+    addresses = [target, source] if form else []
     n = len(data)
-    if b[0] and n in range(1, 64):
-        low, extra = n, []
-    elif b[1] and n in range(1, 256):
-        low, extra = 0, [n]
-    else:
-        return None
-    frame = [top | low] + ([target, source] if form else []) + extra + list(data)
-    return frame + [sum(frame) & 0xFF]
+    heads = {FORMAT_BYTE: [top | n % 64] + addresses, EXTRA_BYTE: [top] + addresses + [n % 256]}
+    frames = {}
+    for place, announced in zip((FORMAT_BYTE, EXTRA_BYTE), bits(kb1)):
+        if announced and n in range(1, HOLDS[place] + 1):
+            frame = heads[place] + list(data)
+            frames[place] = frame + [sum(frame) & 0xFF]
+    return frames
 
 
-def build(kb1, kb2, form, target, source, data, out):
+def build(choice, kb1, kb2, form, target, source, data, out):
     """The number and the length; writes into out."""
     if not is_good(kb1, kb2):
         return 5, 0
-    if form not in forms_taken(kb1):
+    if choice not in (SHORTEST, *HOLDS) or form not in forms_taken(kb1):
         return 6, 0
-    frame = frame_of(kb1, form, target, source, data)
+    frames = frames_of(kb1, form, target, source, data)
+    frame = min(frames.values(), key=len, default=None) if choice == SHORTEST else frames.get(choice)
     if frame is None:
         return 7, 0
     if len(frame) > len(out):
@@ -209,7 +211,7 @@ class Tally:
         self.digest = mix_wide(self.digest, start << 16 | length)
         self.digest = mix(self.digest, *s[start : start + length])
 
-    def plan(self, seed):
+    def plan(self, seed, choice):
         data, out = made_bytes(seed, 260), made_bytes(after(seed), 270)
         a = after(seed)
         b = after(a)
@@ -217,7 +219,7 @@ class Tally:
         target, source = top(b) % 256, top(after(b)) % 256
         n, room = made_length(mix(seed, 1), 261), made_length(mix(seed, 2), 271)
         lent = out[:room]
-        no, size = build(kb1, kb2, form, target, source, data[:n], lent)
+        no, size = build(choice, kb1, kb2, form, target, source, data[:n], lent)
         out[:room] = lent
         self.taken += no == 0
         self.digest = mix(mix_wide(self.digest, no << 16 | size), *out)
@@ -283,7 +285,10 @@ def main():
         ("each code of P2 and P3 max, P3 min with P4 min, and P2 min about P2 max", 66063, lambda t, i: t.codes(listed[i])),
         ("20000 made-up codes", 20000, lambda t, i: t.codes(made_codes(mix(3, i)))),
         ("the set of each KB1", 256, lambda t, i: t.set(i)),
-        ("20000 made-up plans, built and read", 20000, lambda t, i: t.plan(mix(5, i))),
+        ("20000 made-up plans, built by choice 0 and read", 20000, lambda t, i: t.plan(mix(5, i), SHORTEST)),
+        ("the same plans by choice 1", 20000, lambda t, i: t.plan(mix(5, i), FORMAT_BYTE)),
+        ("the same plans by choice 2", 20000, lambda t, i: t.plan(mix(5, i), EXTRA_BYTE)),
+        ("the same plans by choice 3", 20000, lambda t, i: t.plan(mix(5, i), 3)),
         ("20000 made-up slices, read", 20000, lambda t, i: t.slice(mix(6, i))),
     )
     for what, n, case in runs:

@@ -82,15 +82,17 @@ fn put_built(plan: frame::Plan, data: &[u8], room: &mut [u8], out: &mut [u8], at
     words::put_bytes(out, y, &room[..n], LINE_FEED)
 }
 
-// The key bytes, form and addresses of a frame.
+// The choice of the length's place, the key bytes, form and addresses of a frame.
 fn read_plan(s: &[u8], from: usize) -> PlanWord {
-    let kb1 = words::read_byte(s, from);
+    let choice = words::read_number(s, from, 255);
+    let kb1 = words::read_byte(s, choice.to);
     let kb2 = words::read_byte(s, kb1.to);
     let form = words::read_number(s, kb2.to, 255);
     let target = words::read_byte(s, form.to);
     let source = words::read_byte(s, target.to);
     PlanWord {
         plan: frame::Plan {
+            choice: choice.value as u8,
             kb1: kb1.value,
             kb2: kb2.value,
             form: form.value as u8,
@@ -101,7 +103,7 @@ fn read_plan(s: &[u8], from: usize) -> PlanWord {
     }
 }
 
-// build KB1 KB2 FORM TGT SRC ROOM HEX
+// build CHOICE KB1 KB2 FORM TGT SRC ROOM HEX
 fn ask_build(s: &[u8], from: usize, out: &mut [u8], at: usize) -> usize {
     let mut data = lent::data();
     let mut room = lent::room();

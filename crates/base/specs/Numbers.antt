@@ -29,7 +29,7 @@ tooMany = 4
 abbrev pub badKeys : ℕ
 badKeys = 5
 
--- form above 2, not announced, mode 01, or functional under extended timing
+-- form above 2, not announced, mode 01, or functional under extended timing; of building also a choice above 2
 abbrev pub badForm : ℕ
 badForm = 6
 

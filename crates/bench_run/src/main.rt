@@ -59,11 +59,13 @@ fn at_most_64(n: usize) -> usize
     64
 }
 
-// Builds n bytes of data, at most 64, in form 1 for 11 from F1, and answers what came of it.
-fn built(kb1: u8, n: usize) -> Answer {
+// Builds n bytes of data, at most 64, in form 1 for 11 from F1, with the length in the place chosen,
+// and answers what came of it.
+fn built(choice: u8, kb1: u8, n: usize) -> Answer {
     let data = [7u8; 64];
     let mut out = [UNTOUCHED; 80];
     let plan = frame::Plan {
+        choice: choice,
         kb1: kb1,
         kb2: 0x8F,
         form: 1,
@@ -83,12 +85,14 @@ fn built(kb1: u8, n: usize) -> Answer {
 }
 
 // Runs one value and prints its line: 1 where it is right, else 0.
-fn run(kb1: u8, n: usize, want: Answer) -> u64 {
-    let got = built(kb1, n);
+fn run(choice: u8, kb1: u8, n: usize, want: Answer) -> u64 {
+    let got = built(choice, kb1, n);
     io::print_decimal(STDOUT_FILENO, n as u64);
     io::write_all(STDOUT_FILENO, b" bytes under ");
     print_byte(kb1);
-    io::write_all(STDOUT_FILENO, b" 8F in form 1: ");
+    io::write_all(STDOUT_FILENO, b" 8F in form 1 by choice ");
+    io::print_decimal(STDOUT_FILENO, choice as u64);
+    io::write_all(STDOUT_FILENO, b": ");
     print_answer(got);
     io::write_all(STDOUT_FILENO, b", should be ");
     print_answer(want);
@@ -124,20 +128,41 @@ fn refused(no: u8) -> Answer {
     }
 }
 
+// The values of document 01: how many are right, of 3.
+fn run_shortest() -> u64 {
+    let a = run(frame::SHORTEST, 0xE9, 63, taken(67, 0xBF, 0x11, 0xF1, 7));
+    let b = run(frame::SHORTEST, 0xE9, 64, refused(7));
+    let c = run(frame::SHORTEST, 0xEF, 64, taken(69, 0x80, 0x11, 0xF1, 0x40));
+    (a % 2) + (b % 2) + (c % 2)
+}
+
+// The values of the other choices: how many are right, of 6.
+fn run_chosen() -> u64 {
+    let a = run(
+        frame::IN_FORMAT_BYTE,
+        0xEF,
+        63,
+        taken(67, 0xBF, 0x11, 0xF1, 7),
+    );
+    let b = run(frame::IN_FORMAT_BYTE, 0xEF, 64, refused(7));
+    let c = run(frame::IN_FORMAT_BYTE, 0xEA, 2, refused(7));
+    let d = run(frame::IN_EXTRA_BYTE, 0xEF, 2, taken(7, 0x80, 0x11, 0xF1, 2));
+    let e = run(frame::IN_EXTRA_BYTE, 0xE9, 2, refused(7));
+    let f = run(3, 0xEF, 2, refused(6));
+    (a % 2) + (b % 2) + (c % 2) + (d % 2) + (e % 2) + (f % 2)
+}
+
 fn main() {
     io::write_all(
         STDOUT_FILENO,
         b"number, length, first four bytes of the buffer\n",
     );
-    let a = run(0xE9, 63, taken(67, 0xBF, 0x11, 0xF1, 7));
-    let b = run(0xE9, 64, refused(7));
-    let c = run(0xEF, 64, taken(69, 0x80, 0x11, 0xF1, 0x40));
-    if a == 1 {
-        if b == 1 {
-            if c == 1 {
-                io::write_all(STDOUT_FILENO, b"all right\n");
-                return;
-            }
+    let shortest = run_shortest();
+    let chosen = run_chosen();
+    if shortest == 3 {
+        if chosen == 6 {
+            io::write_all(STDOUT_FILENO, b"all right\n");
+            return;
         }
     }
     io::write_all(STDOUT_FILENO, b"NOT all right\n");

@@ -4,7 +4,9 @@ use Rattle.keys.proofs.Eighteen.{good-pairs}
 use Rattle.timing.proofs.P2Table.{rule}
 use Rattle.timing.proofs.RoundTrip.{codes-back, windows-back, codes-exactly, no-codes}
 use Rattle.timing.proofs.Sets.{normal-codes, extended-codes}
-use Rattle.frame.proofs.RoundTrip.{built-reads-back}
+use Rattle.frame.proofs.RoundTrip.{built-reads-back, built-small}
+use Rattle.frame.proofs.Shortest.{shortest-exactly}
+use Rattle.frame.proofs.AllBuilt.{announced-built}
 use Rattle.frame.proofs.WellRead.{announced-reads-back, reads-exactly, read-sums-up}
 use Rattle.demands.specs.DemandTwo.{DemandTwo, Foundation}
 use Rattle.demands.specs.Ours.{ours}
@@ -31,7 +33,10 @@ foundation = record {
   keys = good-pairs;
   built = built-reads-back;
   placed = built-placed;
+  small = built-small;
+  shortest = shortest-exactly;
   announced = announced-reads-back;
+  all-built = announced-built;
   read = reads-exactly;
   sums = read-sums-up;
   p2max = rule;

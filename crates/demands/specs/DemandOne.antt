@@ -54,13 +54,13 @@ pub record DemandOne (m : Machine) : Type 0 where
   -- .. since none of them ever comes to be above 4,000,000,000.
   pub never-above : (es : Log) → Not (Above (after m es .counts))
   -- ---- FRAMES AND TIMING CODES. (These speak of `build`, `read` and the codes by their definitions, and of no link.)
-  -- Building gets 5, 6, 7 or 8 exactly when its condition holds and that of no smaller number does, and 0 exactly when none does: for every plan, data
-  -- and buffer. Where it is refused, the buffer is as it was, and the length is 0.
+  -- Building gets 5, 6, 7 or 8 exactly when its condition holds and that of no smaller number does, and 0 exactly when none does: for every plan, with any
+  -- choice of the length's place, data and buffer. Where it is refused, the buffer is as it was, and the length is 0.
   pub building-numbered : (p : Plan) (bytes out : List ℕ) (r : Built) (after : List ℕ) → Builds p bytes out r after
       → BuildNumbered p (length bytes) (length out) (r .no)
   pub building-as-before : (p : Plan) (bytes out : List ℕ) (r : Built) (after : List ℕ) → Builds p bytes out r after → Not (r .no ≡ 0)
       → (after ≡ out) × (r .len ≡ 0)
-  -- The room that 8 asks for is the frame's own length.
+  -- The room that 8 asks for is the length of the frame as chosen.
   pub frame-size : (p : Plan) (bytes : List ℕ) → length (planned p bytes) ≡ sizeOf p (length bytes)
   -- Reading gets 5, 6, 7 or 9 exactly so, for every slice. Where it is refused, every other number is 0.
   pub reading-numbered : (kb1 kb2 : ℕ) (s : List ℕ) → ReadNumbered kb1 kb2 s (readOf kb1 kb2 s .no)

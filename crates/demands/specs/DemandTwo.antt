@@ -18,12 +18,13 @@ use Rattle.timing.specs.declared.Windows.{Windows}
 use Rattle.timing.specs.declared.Codes.{Codes}
 use Rattle.timing.specs.P2Table.{table}
 use Rattle.timing.specs.Coded.{Bytes, HasCodes, normalCodes, extendedCodes, CodesOfSet}
-use Rattle.frame.specs.Build.{Builds}
+use Rattle.frame.specs.Build.{over, Builds}
+use Rattle.frame.specs.Shortest.{BuildsShortest}
 use Rattle.frame.specs.Read.{readOf}
 use Rattle.frame.specs.declared.Plan.{Plan}
 use Rattle.frame.specs.declared.Built.{Built}
 use Rattle.frame.specs.Layout.{SumsUp}
-use Rattle.frame.specs.Announced.{IsFrame}
+use Rattle.frame.specs.Announced.{IsFrame, planOf}
 use Rattle.frame.specs.ReadsBack.{ReadsBack, BuiltReadsBack}
 use Rattle.events.specs.declared.Kind.the-variants.{Byte, Drop}
 use Rattle.events.specs.declared.Event.{Event}
@@ -51,12 +52,19 @@ pub record Foundation : Type 0 where
   pub keys : (kb1 kb2 : ℕ) → kb1 < 256 → goodPair kb1 kb2 ≡ (eqb kb2 0x8F && isIn kb1 eighteen)
   -- what `build` builds reads back: form, the addresses it carries, data; and what stood after it in the buffer still does
   pub built : (p : Plan) (bytes out : List ℕ) (r : Built) (after : List ℕ) → Builds p bytes out r after → r .no ≡ taken → BuiltReadsBack p bytes out r after
-  -- .. and has its length in the format byte wherever it may stand there, and otherwise in the extra byte;
+  -- .. and has its length in the place chosen, under the choice 0 in the format byte wherever it may stand there, and otherwise in the extra byte;
   pub placed : (p : Plan) (bytes out : List ℕ) (r : Built) (after : List ℕ) → Builds p bytes out r after → r .no ≡ taken
-      → LengthPlaced (p .kb1) (length bytes) (take (r .len) after)
-  -- .. and so reads every frame that good key bytes announce, also such as `build` does not make (a length below 64 in the extra byte, where it could stand
-  -- in the format byte)
+      → LengthPlaced (p .choice) (p .kb1) (length bytes) (take (r .len) after)
+  -- .. and has at most 260 bytes.
+  pub small : (p : Plan) (bytes out : List ℕ) (r : Built) (after : List ℕ) → Builds p bytes out r after → r .no ≡ taken → r .len ≤ 260
+  -- Under the choice 0 `build` promises what document 01's builder did, which knew no choice.
+  pub shortest : (p : Plan) (bytes out : List ℕ) (r : Built) (after : List ℕ) → p .choice ≡ 0
+      → Builds p bytes out r after ↔ BuildsShortest p bytes out r after
+  -- every frame that good key bytes announce reads back as what is built does; ..
   pub announced : (kb1 kb2 : ℕ) (s : List ℕ) (f : IsFrame kb1 kb2 s) → ReadsBack kb1 kb2 (f .form) (f .target) (f .source) (f .bytes) s
+  -- .. and every one is built under a choice, into any buffer that has room for it
+  pub all-built : (kb1 kb2 : ℕ) (s : List ℕ) (f : IsFrame kb1 kb2 s) (out : List ℕ) → length s ≤ length out
+      → Builds (planOf kb1 kb2 s f) (f .bytes) out (record { no = taken; len = length s }) (over s out)
   -- `read` takes exactly these, and their last byte is the sum of all before it
   pub read : (kb1 kb2 : ℕ) (s : List ℕ) → ((i : ℕ) → getD s i 0 < 256) → (readOf kb1 kb2 s .no ≡ taken) ↔ IsFrame kb1 kb2 s
   pub sums : (kb1 kb2 : ℕ) (s : List ℕ) → ((i : ℕ) → getD s i 0 < 256) → readOf kb1 kb2 s .no ≡ taken → SumsUp s

@@ -1,4 +1,5 @@
--- When building, reading and timing codes get which number (document 01, "Numbers a caller may get back"), as conditions. Assumes nothing.
+-- When building, reading and timing codes get which number (document 01, "Numbers a caller may get back"; document 02, Two), as conditions.
+-- Assumes nothing.
 use Prim.Native.Nat.{ℕ, _+_, _-_, _/_, _%_, _≤_, _<_}
 use mathlib.Core.Path.{_≡_}
 use mathlib.Core.Bool.{true, false}
@@ -33,6 +34,13 @@ BadForm kb1 form =
     ⊎ ((form ≡ 2) × (withAddresses kb1 ≡ false))
     ⊎ ((form ≡ 2) × (isExtended kb1 ≡ true))
 
+-- 6 also "for a choice above 2" of the length's place, "shortest as now (0), in the format byte (1), or in the extra byte (2)"
+abbrev pub BadChoice : ℕ → Type 0
+BadChoice choice = 2 < choice
+
+abbrev pub Unannounced : Plan → Type 0
+Unannounced p = BadChoice (p .choice) ⊎ BadForm (p .kb1) (p .form)
+
 -- 7: "Length 1 to 63 goes in the format byte if KB1 bit 0 is set; otherwise lengths 1 to 255 take the extra byte if bit 1 is set; all else is 7."
 abbrev pub GoesInFormat : ℕ → ℕ → Type 0
 GoesInFormat kb1 n = (lengthInFormat kb1 ≡ true) × (1 ≤ n) × (n ≤ 63)
@@ -40,20 +48,27 @@ GoesInFormat kb1 n = (lengthInFormat kb1 ≡ true) × (1 ≤ n) × (n ≤ 63)
 abbrev pub TakesExtra : ℕ → ℕ → Type 0
 TakesExtra kb1 n = (extraLength kb1 ≡ true) × (1 ≤ n) × (n ≤ 255)
 
-abbrev pub BadLength : ℕ → ℕ → Type 0
-BadLength kb1 n = Not (GoesInFormat kb1 n ⊎ TakesExtra kb1 n)
+-- .. and "for a length form chosen but not announced or a length above 63 chosen for the format byte": there is no falling back
+abbrev pub HasPlace : ℕ → ℕ → ℕ → Type 0
+HasPlace choice kb1 n =
+    ((choice ≡ 0) × (GoesInFormat kb1 n ⊎ TakesExtra kb1 n))
+    ⊎ ((choice ≡ 1) × GoesInFormat kb1 n)
+    ⊎ ((choice ≡ 2) × TakesExtra kb1 n)
 
--- 8: "lent buffer shorter than the frame", which n bytes of data make
+abbrev pub BadLength : Plan → ℕ → Type 0
+BadLength p n = Not (HasPlace (p .choice) (p .kb1) n)
+
+-- 8: "lent buffer shorter than the frame", which n bytes of data make, with their length in the place chosen
 abbrev pub NoRoom : Plan → ℕ → ℕ → Type 0
 NoRoom p n room = room < sizeOf p n
 
 -- THE NUMBER OF BUILDING from n bytes of data into a buffer of `room` bytes: each exactly when its condition holds and that of no smaller one does.
 pub record BuildNumbered (p : Plan) (n room no : ℕ) : Type 0 where
   pub five : (no ≡ 5) ↔ BadKeys (p .kb1) (p .kb2)
-  pub six : (no ≡ 6) ↔ (Not (BadKeys (p .kb1) (p .kb2)) × BadForm (p .kb1) (p .form))
-  pub seven : (no ≡ 7) ↔ (Not (BadKeys (p .kb1) (p .kb2)) × Not (BadForm (p .kb1) (p .form)) × BadLength (p .kb1) n)
-  pub eight : (no ≡ 8) ↔ (Not (BadKeys (p .kb1) (p .kb2)) × Not (BadForm (p .kb1) (p .form)) × Not (BadLength (p .kb1) n) × NoRoom p n room)
-  pub built : (no ≡ 0) ↔ (Not (BadKeys (p .kb1) (p .kb2)) × Not (BadForm (p .kb1) (p .form)) × Not (BadLength (p .kb1) n) × Not (NoRoom p n room))
+  pub six : (no ≡ 6) ↔ (Not (BadKeys (p .kb1) (p .kb2)) × Unannounced p)
+  pub seven : (no ≡ 7) ↔ (Not (BadKeys (p .kb1) (p .kb2)) × Not (Unannounced p) × BadLength p n)
+  pub eight : (no ≡ 8) ↔ (Not (BadKeys (p .kb1) (p .kb2)) × Not (Unannounced p) × Not (BadLength p n) × NoRoom p n room)
+  pub built : (no ≡ 0) ↔ (Not (BadKeys (p .kb1) (p .kb2)) × Not (Unannounced p) × Not (BadLength p n) × Not (NoRoom p n room))
   pub no-other : (no ≡ 0) ⊎ ((5 ≤ no) × (no ≤ 8))
 
 -- ---- reading
@@ -108,12 +123,23 @@ pub record ReadNumbered (kb1 kb2 : ℕ) (s : List ℕ) (no : ℕ) : Type 0 where
   pub no-other : (no ≡ 0) ⊎ ((5 ≤ no) × (no ≤ 7)) ⊎ (no ≡ 9)
 
 -- ---- what is built
--- "Length 1 to 63 goes in the format byte if KB1 bit 0 is set; otherwise lengths 1 to 255 take the extra byte if bit 1 is set": where a frame that was
--- built has the length of its n data bytes. In the format byte these are its low six bits; otherwise the low six bits are 0, and it stands after the
--- addresses.
-pub record LengthPlaced (kb1 n : ℕ) (frame : List ℕ) : Type 0 where
-  pub in-format : GoesInFormat kb1 n → lowSix frame ≡ n
-  pub in-extra : Not (GoesInFormat kb1 n) → TakesExtra kb1 n × (lowSix frame ≡ 0) × (extraByte frame ≡ n)
+-- a frame that has the length n in the format byte, which are its low six bits; or in the extra byte: the low six bits are 0, and it stands after the
+-- addresses
+abbrev pub InFormatByte : ℕ → List ℕ → Type 0
+InFormatByte n frame = lowSix frame ≡ n
+
+abbrev pub InExtraByte : ℕ → List ℕ → Type 0
+InExtraByte n frame = (lowSix frame ≡ 0) × (extraByte frame ≡ n)
+
+-- WHERE A FRAME THAT WAS BUILT HAS THE LENGTH of its n data bytes, by the choice
+pub record LengthPlaced (choice kb1 n : ℕ) (frame : List ℕ) : Type 0 where
+  pub chosen : Not (BadChoice choice)
+  -- 0: "Length 1 to 63 goes in the format byte if KB1 bit 0 is set; otherwise lengths 1 to 255 take the extra byte if bit 1 is set"
+  pub short : choice ≡ 0 → GoesInFormat kb1 n → InFormatByte n frame
+  pub long : choice ≡ 0 → Not (GoesInFormat kb1 n) → TakesExtra kb1 n × InExtraByte n frame
+  -- "in the format byte (1), or in the extra byte (2)"
+  pub in-format : choice ≡ 1 → GoesInFormat kb1 n × InFormatByte n frame
+  pub in-extra : choice ≡ 2 → TakesExtra kb1 n × InExtraByte n frame
 
 -- ---- timing
 -- a min below its max; no limit is above every min

@@ -1,17 +1,17 @@
 -- The tests of building, and what they ask: where none refuses, the frame that is planned is announced and has room. Assumes nothing.
-use mathlib.Core.Path.{_≡_, refl, sym, _∙_}
+use mathlib.Core.Path.{_≡_, refl, sym, _∙_, subst}
 use mathlib.Core.Bool.{Bool, true, false, _&&_, not, true≢false}
 use Prim.Native.Nat.{ℕ, _≤_}
 use native.Mathlib.Omega.{arith}
 use borrow.Author.Tests.{leb-true, le-leb, ltb-false}
-use lib.Dec.{leb, ltb}
+use lib.Dec.{eqb, leb, ltb}
 use Rattle.base.specs.Choice.{if_then_else_}
 use Rattle.base.specs.Numbers.{taken, badKeys, badForm, badLength, noRoom}
-use Rattle.base.proofs.Tests.{and-split}
+use Rattle.base.proofs.Tests.{and-split, by-test}
 use Rattle.keys.specs.Keys.{goodPair, takesForm, lengthInFormat, extraLength}
 use Rattle.keys.specs.declared.Form.{Form}
 use Rattle.frame.specs.Layout.{formNumbered, isNowhere}
-use Rattle.frame.specs.Build.{placeFor, sizeOf, buildNo, Writable}
+use Rattle.frame.specs.Build.{placeFor, shortest, inFormatByte, inExtraByte, onlyIn, placeChosen, placeIn, sizeOf, buildNo, Writable}
 use Rattle.frame.specs.Announced.{Placed, Announced}
 use Rattle.frame.specs.declared.Place.{Place}
 use Rattle.frame.specs.declared.Place.the-variants.{Format, Extra, Nowhere}
@@ -50,10 +50,47 @@ by-tests kb1 n m k true b ea eb h hm hk = let f = fits-by (lengthInFormat kb1) n
 by-tests kb1 n m k false true ea eb h hm hk = let f = fits-by (extraLength kb1) n k eb in (f .0, f .1, omega (arith, f .2))
 by-tests kb1 n m k false false ea eb h hm hk = absurd (true≢false h)
 
--- a length that goes somewhere fits there
-pub placed-for : (kb1 n : ℕ) → isNowhere (placeFor kb1 n) ≡ false → Placed kb1 (placeFor kb1 n) n
+-- a length that goes somewhere fits there: by the shortest frame, ..
+placed-shortest : (kb1 n : ℕ) → isNowhere (placeFor kb1 n) ≡ false → Placed kb1 (placeFor kb1 n) n
 unfolding placeFor
-placed-for kb1 n h = by-tests kb1 n _ _ _ _ refl refl h (omega arith) (omega arith)
+placed-shortest kb1 n h = by-tests kb1 n _ _ _ _ refl refl h (omega arith) (omega arith)
+
+-- .. in one place only, ..
+module _ (place : Place) (bit : Bool) (n most : ℕ) where
+  only-by : (b : Bool) → (bit && (leb 1 n && leb n most)) ≡ b → isNowhere (if b then place else Nowhere) ≡ false
+      → ((if b then place else Nowhere) ≡ place) × (bit ≡ true) × (1 ≤ n) × (n ≤ most)
+  unfolding isNowhere
+  only-by true e h = let f = fits-by bit n most e in (refl, f .0, f .1, f .2)
+  only-by false e h = absurd (true≢false h)
+
+  pub only-there : isNowhere (onlyIn place bit n most) ≡ false → (onlyIn place bit n most ≡ place) × (bit ≡ true) × (1 ≤ n) × (n ≤ most)
+  unfolding onlyIn
+  only-there h = only-by _ refl h
+
+only-format : (kb1 n m : ℕ) → m ≤ 63 → isNowhere (onlyIn Format (lengthInFormat kb1) n m) ≡ false → Placed kb1 (onlyIn Format (lengthInFormat kb1) n m) n
+only-format kb1 n m few h =
+    let o = only-there Format (lengthInFormat kb1) n m h in
+    subst (λ (x : Place). Placed kb1 x n) (sym (o .0)) (o .1, o .2, omega (arith, o .3))
+
+only-extra : (kb1 n m : ℕ) → m ≤ 255 → isNowhere (onlyIn Extra (extraLength kb1) n m) ≡ false → Placed kb1 (onlyIn Extra (extraLength kb1) n m) n
+only-extra kb1 n m few h =
+    let o = only-there Extra (extraLength kb1) n m h in
+    subst (λ (x : Place). Placed kb1 x n) (sym (o .0)) (o .1, o .2, omega (arith, o .3))
+
+-- .. and so by any choice
+abbrev Fitting : ℕ → ℕ → Place → Type 0
+Fitting kb1 n place = isNowhere place ≡ false → Placed kb1 place n
+
+nowhere-fits : (kb1 n : ℕ) → Fitting kb1 n Nowhere
+unfolding isNowhere
+nowhere-fits kb1 n h = absurd (true≢false h)
+
+pub placed-for : (choice kb1 n : ℕ) → isNowhere (placeChosen choice kb1 n) ≡ false → Placed kb1 (placeChosen choice kb1 n) n
+unfolding placeChosen
+placed-for choice kb1 n =
+    by-test (Fitting kb1 n) (eqb choice shortest) (λ _. placed-shortest kb1 n)
+    (λ _. by-test (Fitting kb1 n) (eqb choice inFormatByte) (λ _. only-format kb1 n _ (omega arith))
+    (λ _. by-test (Fitting kb1 n) (eqb choice inExtraByte) (λ _. only-extra kb1 n _ (omega arith)) (λ _. nowhere-fits kb1 n)))
 
 -- and such a length passes the first test
 first-by : (bit : Bool) (n most : ℕ) (other : Place) → bit ≡ true → 1 ≤ n → n ≤ most
@@ -67,24 +104,28 @@ format-first kb1 n p = first-by (lengthInFormat kb1) n _ _ (p .0) (p .1) (omega 
 
 -- the number 0 comes only where no test refuses
 pub record NoneRefuses (p : Plan) (n room : ℕ) : Type 0 where
-  pub announced : Announced (p .kb1) (p .kb2) (formNumbered (p .form)) (placeFor (p .kb1) n) n
+  pub chosen : p .choice ≤ 2
+  pub announced : Announced (p .kb1) (p .kb2) (formNumbered (p .form)) (placeIn p n) n
   pub roomy : sizeOf p n ≤ room
 
-through : (a b c d : Bool) → (if not a then badKeys else if not b then badForm else if c then badLength else if d then noRoom else taken) ≡ taken
-    → (a ≡ true) × (b ≡ true) × (c ≡ false) × (d ≡ false)
-through true true false false e = (refl, refl, refl, refl)
-through true true false true e = absurd (omega arith)
-through true true true d e = absurd (omega arith)
-through true false c d e = absurd (omega arith)
-through false b c d e = absurd (omega arith)
+through : (a x b c d : Bool)
+    → (if not a then badKeys else if x then badForm else if not b then badForm else if c then badLength else if d then noRoom else taken) ≡ taken
+    → (a ≡ true) × (x ≡ false) × (b ≡ true) × (c ≡ false) × (d ≡ false)
+through true false true false false e = (refl, refl, refl, refl, refl)
+through true false true false true e = absurd (omega arith)
+through true false true true d e = absurd (omega arith)
+through true false false c d e = absurd (omega arith)
+through true true b c d e = absurd (omega arith)
+through false x b c d e = absurd (omega arith)
 
 pub none-refuses : (p : Plan) (n room : ℕ) → buildNo p n room ≡ taken → NoneRefuses p n room
 unfolding buildNo
 none-refuses p n room e =
-    let t = through (goodPair (p .kb1) (p .kb2)) (takesForm (p .kb1) (formNumbered (p .form))) (isNowhere (placeFor (p .kb1) n)) (ltb room (sizeOf p n)) e in
+    let t = through (goodPair (p .kb1) (p .kb2)) _ (takesForm (p .kb1) (formNumbered (p .form))) (isNowhere (placeIn p n)) _ e in
     record {
-      announced = record { good = t .0; takes = t .1; placed = placed-for (p .kb1) n (t .2) };
-      roomy = ltb-false room (sizeOf p n) (t .3);
+      chosen = omega (arith, ltb-false _ (p .choice) (t .1));
+      announced = record { good = t .0; takes = t .2; placed = placed-for _ (p .kb1) n (t .3) };
+      roomy = ltb-false room _ (t .4);
     }
 
 short-format : (kb1 : ℕ) (place : Place) (n : ℕ) → Placed kb1 place n → place ≡ Format → n ≤ 63
@@ -95,13 +136,13 @@ short-format kb1 place n p e = ap-placed (rw e at p)
 
 -- what `write` asks, where the number k is 0
 pub writable : (p : Plan) (n room k : ℕ) (form : Form) (place : Place) → k ≡ buildNo p n room → k ≡ taken → form ≡ formNumbered (p .form)
-    → place ≡ placeFor (p .kb1) n → Writable form place n room
+    → place ≡ placeIn p n → Writable form place n room
 unfolding sizeOf
 writable p n room k form place ek e ef ep =
     let r = none-refuses p n room (sym ek ∙ e) in
     rw (ef, ep)
     (record {
-      byte = length-byte (p .kb1) (placeFor (p .kb1) n) n (r .announced .placed);
-      short = short-format (p .kb1) (placeFor (p .kb1) n) n (r .announced .placed);
+      byte = length-byte (p .kb1) (placeIn p n) n (r .announced .placed);
+      short = short-format (p .kb1) (placeIn p n) n (r .announced .placed);
       fits = r .roomy;
     })

@@ -6,5 +6,7 @@ pub mod Within
 pub mod Starts
 pub mod RoundTrip
 pub mod Placing
+pub mod Shortest
 pub mod WellRead
+pub mod AllBuilt
 pub mod One

@@ -15,7 +15,7 @@ use Rattle.keys.specs.Keys.{takesForm}
 use Rattle.keys.specs.declared.Form.{Form}
 use Rattle.keys.specs.declared.Form.the-variants.{Plain, Physical, Functional, Foreign}
 use Rattle.frame.specs.Layout.{formNumbered, numberOf, headSize, total, checksumOf, bodyOf, frameOf, SumsUp, carried}
-use Rattle.frame.specs.Build.{placeFor, planned, sizeOf, buildNo, notBuilt, builtOf, over, bufferAfter, Builds}
+use Rattle.frame.specs.Build.{placeIn, planned, sizeOf, buildNo, notBuilt, builtOf, over, bufferAfter, Builds}
 use Rattle.frame.specs.Read.{laidOf, judged, readOf, dataOf}
 use Rattle.frame.specs.Announced.{Announced}
 use Rattle.frame.specs.ReadsBack.{ReadsBack, BuiltReadsBack}
@@ -116,10 +116,10 @@ built-taken p bytes out r after b e = sym (built-no p (length bytes) (length out
 
 -- WHAT IS PLANNED READS BACK, where key bytes announce it
 pub planned-reads-back : (p : Plan) (bytes : List ℕ)
-    → Announced (p .kb1) (p .kb2) (formNumbered (p .form)) (placeFor (p .kb1) (length bytes)) (length bytes)
+    → Announced (p .kb1) (p .kb2) (formNumbered (p .form)) (placeIn p (length bytes)) (length bytes)
     → ReadsBack (p .kb1) (p .kb2) (formNumbered (p .form)) (p .target) (p .source) bytes (planned p bytes)
 unfolding planned
-planned-reads-back p bytes a = frame-reads-back (p .kb1) (p .kb2) (formNumbered (p .form)) (placeFor (p .kb1) (length bytes)) (p .target) (p .source) bytes a
+planned-reads-back p bytes a = frame-reads-back (p .kb1) (p .kb2) (formNumbered (p .form)) (placeIn p (length bytes)) (p .target) (p .source) bytes a
 
 -- and so does WHAT `build` BUILDS
 pub built-reads-back : (p : Plan) (bytes out : List ℕ) (r : Built) (after : List ℕ) → Builds p bytes out r after → r .no ≡ taken → BuiltReadsBack p bytes out r after
@@ -132,11 +132,22 @@ built-reads-back p bytes out r after b e =
       frame = planned p bytes;
       size =
           ap (λ (k : Built). k .len) (b .answer) ∙ rw (eq-eqb (buildNo p n (length out)) taken no)
-          (sym (frame-length (formNumbered (p .form)) (placeFor (p .kb1) n) (p .target) (p .source) bytes));
+          (sym (frame-length (formNumbered (p .form)) (placeIn p n) (p .target) (p .source) bytes));
       memory = b .memory ∙ rw (eq-eqb (buildNo p n (length out)) taken no);
       form-number = number-back (p .kb1) (p .form) (x .announced .takes);
       reads-back = planned-reads-back p bytes (x .announced);
     }
+
+-- .. and has at most 260 bytes
+pub built-small : (p : Plan) (bytes out : List ℕ) (r : Built) (after : List ℕ) → Builds p bytes out r after → r .no ≡ taken → r .len ≤ 260
+unfolding built-reads-back planned
+built-small p bytes out r after b e =
+    let x = none-refuses p (length bytes) (length out) (built-taken p bytes out r after b e) in
+    omega (
+      arith,
+      built-reads-back p bytes out r after b e .size,
+      frame-small (p .kb1) (p .kb2) (formNumbered (p .form)) (placeIn p (length bytes)) (p .target) (p .source) bytes (x .announced),
+    )
 
 -- .. and is the frame that is planned: so many bytes at the front
 pub built-front : (p : Plan) (bytes out : List ℕ) (r : Built) (after : List ℕ) → Builds p bytes out r after → r .no ≡ taken

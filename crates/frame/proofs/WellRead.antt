@@ -164,7 +164,8 @@ frame-made form place s n size sum hd =
     sym (take-all (h + n + 1) s (omega arith)) ∙ ap (λ (k : ℕ). take k s) (add-one (h + n)) ∙ take-suc s (h + n) 0 (omega arith)
     ∙ (λ i. body i ++ ((sym sum ∙ ap checksumOf body) i ∷ []))
 
-form-again : (form : Form) → formNumbered (numberOf form) ≡ form
+-- a form has its number back
+pub form-again : (form : Form) → formNumbered (numberOf form) ≡ form
 unfolding formNumbered
 form-again Plain = refl
 form-again Physical = refl

@@ -1,5 +1,5 @@
 -- What key bytes announce: good key bytes, a form they take, and a length in a place that they announce and that holds it (document 01, "Key bytes",
--- "Frames"). Of the announced frames `build` makes those with the length in the format byte wherever it may stand there; `read` takes them all.
+-- "Frames"). `read` takes all announced frames, and `build` makes each of them, by the choice of its place; under the choice 0 only the shortest.
 -- Assumes nothing.
 use mathlib.Core.Path.{_≡_}
 use Prim.Native.Nat.{ℕ, _≤_}
@@ -8,9 +8,11 @@ use mathlib.Core.List.{List}
 use lib.ListN.{length}
 use Rattle.keys.specs.Keys.{goodPair, takesForm, lengthInFormat, extraLength}
 use Rattle.keys.specs.declared.Form.{Form}
-use Rattle.frame.specs.Layout.{frameOf}
+use Rattle.frame.specs.Layout.{numberOf, frameOf}
+use Rattle.frame.specs.Build.{shortest, inFormatByte, inExtraByte}
 use Rattle.frame.specs.declared.Place.{Place}
 use Rattle.frame.specs.declared.Place.the-variants.{Format, Extra, Nowhere}
+use Rattle.frame.specs.declared.Plan.{Plan}
 
 -- a length that KB1 announces this place for, and that fits it
 abbrev pub Placed : ℕ → Place → ℕ → Type 0
@@ -33,3 +35,19 @@ pub record IsFrame (kb1 kb2 : ℕ) (s : List ℕ) : Type 0 where
   pub bytes : List ℕ
   pub announced : Announced kb1 kb2 form place (length bytes)
   pub whole : s ≡ frameOf form place target source bytes
+
+-- the plan that names its form, its place and its addresses (no frame has its length nowhere)
+abbrev pub choiceOf : Place → ℕ
+choiceOf Format = inFormatByte
+choiceOf Extra = inExtraByte
+choiceOf Nowhere = shortest
+
+abbrev pub planOf : (kb1 kb2 : ℕ) (s : List ℕ) → IsFrame kb1 kb2 s → Plan
+planOf kb1 kb2 s f = record {
+  choice = choiceOf (f .place);
+  kb1 = kb1;
+  kb2 = kb2;
+  form = numberOf (f .form);
+  target = f .target;
+  source = f .source;
+}

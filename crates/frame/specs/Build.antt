@@ -1,7 +1,7 @@
--- Building a frame into a lent buffer (document 01, "Frames"). Assumes nothing.
+-- Building a frame into a lent buffer (document 01, "Frames"; document 02, Two: the length's place is chosen). Assumes nothing.
 use mathlib.Core.Path.{_≡_}
 use Prim.Native.Nat.{ℕ, _+_, _≤_}
-use mathlib.Core.Bool.{_&&_, not}
+use mathlib.Core.Bool.{Bool, _&&_, not}
 use mathlib.Core.List.{List, _++_}
 use lib.ListN.{length, take, drop}
 use lib.Dec.{eqb, leb, ltb}
@@ -21,19 +21,46 @@ placeFor kb1 n =
     if lengthInFormat kb1 && (leb 1 n && leb n 63) then Format else
     if extraLength kb1 && (leb 1 n && leb n 255) then Extra else Nowhere
 
--- "Building takes key bytes, form (0 none, 1 physical, 2 functional), addresses, data": the frame that a plan makes of n bytes, and its size
+-- the choices: "shortest as now (0), in the format byte (1), or in the extra byte (2)"
+abbrev pub shortest : ℕ
+shortest = 0
+
+abbrev pub inFormatByte : ℕ
+inFormatByte = 1
+
+abbrev pub inExtraByte : ℕ
+inExtraByte = 2
+
+-- one place and no other: there, if KB1 announces it, for lengths from 1 to what it holds
+unfoldable pub onlyIn : Place → Bool → ℕ → ℕ → Place
+onlyIn place announced n most = if announced && (leb 1 n && leb n most) then place else Nowhere
+
+-- The place of a length by the choice. "Shortest keeps 01's answers"; of the others "a length form chosen but not announced or a length above 63 chosen
+-- for the format byte" has none, and is 7. A choice above 2 has none either; it is 6.
+unfoldable pub placeChosen : ℕ → ℕ → ℕ → Place
+placeChosen choice kb1 n =
+    if eqb choice shortest then placeFor kb1 n else
+    if eqb choice inFormatByte then onlyIn Format (lengthInFormat kb1) n 63 else
+    if eqb choice inExtraByte then onlyIn Extra (extraLength kb1) n 255 else Nowhere
+
+-- "Building takes key bytes, form (0 none, 1 physical, 2 functional), addresses, data", and a choice: where the length of n bytes goes under a plan, the
+-- frame that it makes of them, and its size
+abbrev pub placeIn : Plan → ℕ → Place
+placeIn p n = placeChosen (p .choice) (p .kb1) n
+
 unfoldable pub planned : Plan → List ℕ → List ℕ
-planned p bytes = frameOf (formNumbered (p .form)) (placeFor (p .kb1) (length bytes)) (p .target) (p .source) bytes
+planned p bytes = frameOf (formNumbered (p .form)) (placeIn p (length bytes)) (p .target) (p .source) bytes
 
 unfoldable pub sizeOf : Plan → ℕ → ℕ
-sizeOf p n = headSize (formNumbered (p .form)) (placeFor (p .kb1) n) + n + 1
+sizeOf p n = headSize (formNumbered (p .form)) (placeIn p n) + n + 1
 
--- the answer's number for n bytes and a buffer of so many
+-- the answer's number for n bytes and a buffer of so many: 5; 6, also "for a choice above 2"; 7; 8, by the frame as chosen
 unfoldable pub buildNo : Plan → ℕ → ℕ → ℕ
 buildNo p n room =
     if not (goodPair (p .kb1) (p .kb2)) then badKeys else
+    if ltb inExtraByte (p .choice) then badForm else
     if not (takesForm (p .kb1) (formNumbered (p .form))) then badForm else
-    if isNowhere (placeFor (p .kb1) n) then badLength else
+    if isNowhere (placeIn p n) then badLength else
     if ltb room (sizeOf p n) then noRoom else taken
 
 abbrev pub notBuilt : ℕ → Built

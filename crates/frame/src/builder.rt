@@ -3,14 +3,17 @@ ghost use mathlib.Core.Path.{_≡_};
 ghost use Prim.Native.Nat.{_+_, _≤_, _<_};
 ghost use lib.ListN.{length, set};
 ghost use Rattle.frame.specs.Layout.{addressesOf, extraOf, addressCount, extraCount, headSize, headOf, frameOf};
-ghost use Rattle.frame.specs.Build.{placeFor, buildNo, put, over, Builds, Writable};
+ghost use Rattle.frame.specs.Build.{placeFor, onlyIn, placeChosen, placeIn, buildNo, put, over, Builds, Writable};
 use crate::Built;
+use crate::IN_EXTRA_BYTE;
+use crate::IN_FORMAT_BYTE;
 use crate::Place;
 use crate::Plan;
+use crate::SHORTEST;
 use crate::layout;
 use keys::Form;
 
-// Where a length goes in what is built.
+// Where a length goes that may stand in either place: in the format byte if it can.
 fn place_for(kb1: u8, n: usize) -> Place
     ensures { λ r. ⌜ r ≡ placeFor kb1 n ⌝ }
 {
@@ -23,14 +26,50 @@ fn place_for(kb1: u8, n: usize) -> Place
     Place::Nowhere
 }
 
+// A place that is announced or not, for a length from 1 to the most that it holds; else nowhere.
+fn only_in(place: Place, announced: bool, n: usize, most: usize) -> Place
+    ensures { λ r. ⌜ r ≡ onlyIn place announced n most ⌝ }
+{
+    if announced & ((1 <= n) & (n <= most)) {
+        return place;
+    }
+    Place::Nowhere
+}
+
+// Where a length goes by the choice.
+fn place_chosen(choice: u8, kb1: u8, n: usize) -> Place
+    ensures { λ r. ⌜ r ≡ placeChosen choice kb1 n ⌝ }
+{
+    if choice == SHORTEST {
+        return place_for(kb1, n);
+    }
+    if choice == IN_FORMAT_BYTE {
+        return only_in(Place::Format, keys::length_in_format(kb1), n, 63);
+    }
+    if choice == IN_EXTRA_BYTE {
+        return only_in(Place::Extra, keys::extra_length(kb1), n, 255);
+    }
+    Place::Nowhere
+}
+
+// Where the length of n bytes goes under a plan.
+fn place_in(p: Plan, n: usize) -> Place
+    ensures { λ r. ⌜ r ≡ placeIn p n ⌝ }
+{
+    place_chosen(p.choice, p.kb1, n)
+}
+
 // The number for n bytes of data and a buffer of so many: 5, 6, 7, 8 in this order, or 0.
 fn build_no(p: Plan, n: usize, room: usize) -> u8
     ensures { λ r. ⌜ r ≡ buildNo p n room ⌝ }
 {
     let form = layout::form_numbered(p.form);
-    let place = place_for(p.kb1, n);
+    let place = place_in(p, n);
     if !keys::good_pair(p.kb1, p.kb2) {
         return base::BAD_KEYS;
+    }
+    if IN_EXTRA_BYTE < p.choice {
+        return base::BAD_FORM;
     }
     if !keys::takes_form(p.kb1, form) {
         return base::BAD_FORM;
@@ -112,8 +151,9 @@ fn write(form: Form, place: Place, p: Plan, bytes: &[u8], out: &mut [u8]) -> usi
     e + 1
 }
 
-// Builds a frame at the front of `out`, and touches nothing after it. A refusal touches nothing at
-// all: 5 the key bytes, 6 the form, 7 the length, 8 the room, the first that applies.
+// Builds a frame at the front of `out`, with the length in the place chosen, and touches nothing
+// after it. A refusal touches nothing at all: 5 the key bytes, 6 the choice or the form, 7 the length
+// or its place, 8 the room, the first that applies.
 pub fn build(p: Plan, bytes: &[u8], out: &mut [u8]) -> Built
     ensures { λ r. ⌜ Builds p (now (bytes .entry)) (now (out .entry)) r (now (out .exit)) ⌝ }
 {
@@ -123,7 +163,7 @@ pub fn build(p: Plan, bytes: &[u8], out: &mut [u8]) -> Built
         return Built { no: no, len: 0 };
     }
     let form = layout::form_numbered(p.form);
-    let place = place_for(p.kb1, n);
+    let place = place_in(p, n);
     let len = write(form, place, p, bytes, out);
     Built {
         no: base::TAKEN,

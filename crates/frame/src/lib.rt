@@ -15,8 +15,18 @@ enum Place {
     Nowhere,
 }
 
-// What to build: the key bytes, the form (0 none, 1 physical, 2 functional) and the addresses.
+// Where the length goes in what is built: in the format byte where it can stand there and otherwise
+// in the extra byte, so that the frame is shortest; in the format byte only; in the extra byte only.
+pub const SHORTEST: u8 = 0;
+
+pub const IN_FORMAT_BYTE: u8 = 1;
+
+pub const IN_EXTRA_BYTE: u8 = 2;
+
+// What to build: where the length goes (one of these three), the key bytes, the form (0 none, 1
+// physical, 2 functional) and the addresses.
 pub struct Plan {
+    pub choice: u8,
     pub kb1: u8,
     pub kb2: u8,
     pub form: u8,

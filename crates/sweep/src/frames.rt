@@ -36,12 +36,13 @@ fn made_kb1(seed: u32) -> u8 {
     GOOD[(marks::next(s) / 65536 % 18) as usize]
 }
 
-// A made-up plan.
-fn made_plan(seed: u32) -> Plan {
+// A made-up plan, with this choice of the length's place.
+fn made_plan(seed: u32, choice: u8) -> Plan {
     let a = marks::next(seed);
     let b = marks::next(a);
     let c = marks::next(b);
     Plan {
+        choice: choice,
         kb1: made_kb1(a),
         kb2: 0x8F,
         form: (a / 65536 % 4) as u8,
@@ -147,8 +148,8 @@ fn read_case(t: Tally, kb1: u8, kb2: u8, s: &[u8]) -> Tally {
 }
 
 // Builds a made-up plan, mixes the answer and the whole buffer, and reads what was built.
-fn build_case(t: Tally, seed: u32, data: &[u8], out: &mut [u8]) -> Tally {
-    let p = made_plan(seed);
+fn build_case(t: Tally, seed: u32, choice: u8, data: &[u8], out: &mut [u8]) -> Tally {
+    let p = made_plan(seed, choice);
     let n = made_length(marks::mix(seed, 1), 261);
     let room = made_length(marks::mix(seed, 2), 271);
     if data.len() < n {
@@ -168,13 +169,14 @@ fn build_case(t: Tally, seed: u32, data: &[u8], out: &mut [u8]) -> Tally {
     read_case(built, p.kb1, p.kb2, &out[..len])
 }
 
-// One made-up plan with made-up data and a made-up buffer, built, and what was built read.
-pub(crate) fn frame_case(t: Tally, seed: u32) -> Tally {
+// One made-up plan with made-up data and a made-up buffer, built by this choice, and what was built
+// read.
+pub(crate) fn frame_case(t: Tally, seed: u32, choice: u8) -> Tally {
     let mut data = [0u8; 260];
     let mut out = [0u8; 270];
     fill(seed, &mut data);
     fill(marks::next(seed), &mut out);
-    build_case(t, seed, &data, &mut out)
+    build_case(t, seed, choice, &data, &mut out)
 }
 
 // The front of a made-up buffer, dressed as a frame, and read under made-up key bytes.

@@ -40,7 +40,16 @@ fn case(kind: u8, t: Tally, i: u32) -> Tally {
         return times::set_case(t, (i % 256) as u8);
     }
     if kind == 4 {
-        return frames::frame_case(t, marks::mix(5, i));
+        return frames::frame_case(t, marks::mix(5, i), frame::SHORTEST);
+    }
+    if kind == 5 {
+        return frames::frame_case(t, marks::mix(5, i), frame::IN_FORMAT_BYTE);
+    }
+    if kind == 6 {
+        return frames::frame_case(t, marks::mix(5, i), frame::IN_EXTRA_BYTE);
+    }
+    if kind == 7 {
+        return frames::frame_case(t, marks::mix(5, i), 3);
     }
     frames::slice_case(t, marks::mix(6, i))
 }
@@ -74,6 +83,9 @@ fn main() {
     );
     part(b"20000 made-up codes", 2, 20000);
     part(b"the set of each KB1", 3, 256);
-    part(b"20000 made-up plans, built and read", 4, 20000);
-    part(b"20000 made-up slices, read", 5, 20000);
+    part(b"20000 made-up plans, built by choice 0 and read", 4, 20000);
+    part(b"the same plans by choice 1", 5, 20000);
+    part(b"the same plans by choice 2", 6, 20000);
+    part(b"the same plans by choice 3", 7, 20000);
+    part(b"20000 made-up slices, read", 8, 20000);
 }

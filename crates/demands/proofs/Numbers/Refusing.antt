@@ -27,14 +27,14 @@ use Rattle.timing.specs.declared.Encoded.{Encoded}
 use Rattle.timing.specs.Coded.{HasCodes}
 use Rattle.timing.proofs.RoundTrip.{codes-exactly, no-codes}
 use Rattle.frame.specs.Layout.{formNumbered, formatForm, addressCount, extraCount, headSize, total, checksumOf, isNowhere}
-use Rattle.frame.specs.Build.{placeFor, planned, sizeOf, buildNo, notBuilt, builtOf, bufferAfter, Builds}
+use Rattle.frame.specs.Build.{placeFor, onlyIn, placeChosen, placeIn, planned, sizeOf, buildNo, notBuilt, builtOf, bufferAfter, Builds}
 use Rattle.frame.specs.Read.{formatByte, placeRead, lengthRead, lengthOf, notLaid, laidOf, notRead, judged, readOf}
 use Rattle.frame.specs.declared.Plan.{Plan}
 use Rattle.frame.specs.declared.Built.{Built}
 use Rattle.frame.specs.declared.Reading.{Reading}
 use Rattle.frame.proofs.Sizes.{frame-length}
 use Rattle.demands.specs.Refusals.{Not}
-use Rattle.demands.specs.Frames.{BadForm, GoesInFormat, TakesExtra, BadLength, BuildNumbered, Below, Allowed}
+use Rattle.demands.specs.Frames.{BadChoice, BadForm, Unannounced, GoesInFormat, TakesExtra, HasPlace, BadLength, BuildNumbered, Below, Allowed}
 use Rattle.demands.specs.Frames.{lowSix, addressesIn, extraByte, sizeSaid, BadMode, NotPlaced, BadSlice, BadSum, ReadNumbered}
 use Rattle.demands.proofs.Numbers.Numbering.{Decides, either-of, both, off, meets, misses}
 
@@ -171,36 +171,78 @@ decides-form : (kb1 n : ℕ) → Decides (not (takesForm kb1 (formNumbered n))) 
 unfolding formNumbered
 decides-form kb1 n = form-by kb1 n (eqb n 0) (eqb n 1) (eqb n 2) refl refl refl
 
--- 7, by both places: whatever stands for them, only the third is nowhere
-length-by : {A : Type 0} (nowhere : A → Bool) (format extra other : A) → nowhere format ≡ false → nowhere extra ≡ false → nowhere other ≡ true
-    → (kb1 n : ℕ) (a b : Bool) → Decides a (GoesInFormat kb1 n) → Decides b (TakesExtra kb1 n)
-    → Decides (nowhere (if a then format else if b then extra else other)) (BadLength kb1 n)
-length-by nowhere format extra other ef ee eo kb1 n true b p q = (λ t. absurd (false≢true (sym ef ∙ t)), λ f. absurd (f (inl (p .0 refl))))
-length-by nowhere format extra other ef ee eo kb1 n false true p q = (λ t. absurd (false≢true (sym ee ∙ t)), λ f. absurd (f (inr (q .0 refl))))
-length-by nowhere format extra other ef ee eo kb1 n false false p q = (λ _. ⊎-elim (off p) (off q), λ _. eo)
+-- 6, also by the choice: two tests one after another with one number are one
+decides-unannounced : (p : Plan) → Decides (ltb 2 (p .choice) || not (takesForm (p .kb1) (formNumbered (p .form)))) (Unannounced p)
+decides-unannounced p = either-of (ltb 2 (p .choice)) _ (decides-lt 2 (p .choice)) (λ _. decides-form (p .kb1) (p .form))
 
-decides-length : (kb1 n : ℕ) → Decides (isNowhere (placeFor kb1 n)) (BadLength kb1 n)
-unfolding placeFor isNowhere
-decides-length kb1 n =
-    length-by isNowhere _ _ _ refl refl refl kb1 n (lengthInFormat kb1 && (leb 1 n && leb n 63)) (extraLength kb1 && (leb 1 n && leb n 255))
-    (three (lengthInFormat kb1) (leb 1 n) (leb n 63) (decides-true (lengthInFormat kb1)) (decides-le 1 n) (decides-le n 63))
-    (three (extraLength kb1) (leb 1 n) (leb n 255) (decides-true (extraLength kb1)) (decides-le 1 n) (decides-le n 255))
+as-one : (a b : Bool) (k other : ℕ) → (if a || b then k else other) ≡ (if a then k else if b then k else other)
+as-one true b k other = refl
+as-one false b k other = refl
+
+-- 7, by both places: whatever stands for them, only the third is nowhere
+module _ {A : Type 0} (nowhere : A → Bool) (other : A) (eo : nowhere other ≡ true) where
+  length-by : (format extra : A) → nowhere format ≡ false → nowhere extra ≡ false → (kb1 n : ℕ) (a b : Bool) → Decides a (GoesInFormat kb1 n)
+      → Decides b (TakesExtra kb1 n) → Decides (nowhere (if a then format else if b then extra else other)) (Not (GoesInFormat kb1 n ⊎ TakesExtra kb1 n))
+  length-by format extra ef ee kb1 n true b p q = (λ t. absurd (false≢true (sym ef ∙ t)), λ f. absurd (f (inl (p .0 refl))))
+  length-by format extra ef ee kb1 n false true p q = (λ t. absurd (false≢true (sym ee ∙ t)), λ f. absurd (f (inr (q .0 refl))))
+  length-by format extra ef ee kb1 n false false p q = (λ _. ⊎-elim (off p) (off q), λ _. eo)
+
+  only-by : {P : Type 0} (place : A) → nowhere place ≡ false → (b : Bool) → Decides b P → Decides (nowhere (if b then place else other)) (Not P)
+  only-by place e true p = (λ t. absurd (false≢true (sym e ∙ t)), λ f. absurd (f (p .0 refl)))
+  only-by place e false p = (λ _. off p, λ _. eo)
+
+  -- by the choice
+  choice-by : (x y z : A) (choice kb1 n : ℕ) (a b c : Bool) → eqb choice 0 ≡ a → eqb choice 1 ≡ b → eqb choice 2 ≡ c
+      → Decides (nowhere x) (Not (GoesInFormat kb1 n ⊎ TakesExtra kb1 n)) → Decides (nowhere y) (Not (GoesInFormat kb1 n))
+      → Decides (nowhere z) (Not (TakesExtra kb1 n)) → Decides (nowhere (if a then x else if b then y else if c then z else other)) (Not (HasPlace choice kb1 n))
+  choice-by x y z choice kb1 n true b c ea eb ec p q r =
+      let e = eqb-true choice 0 ea in
+      same (nowhere x) p (
+        λ f. ⊎-elim (λ h. f (h .1)) (⊎-elim (λ h. absurd (omega (arith, h .0))) (λ h. absurd (omega (arith, h .0)))),
+        λ f g. f (inl (e, g)),
+      )
+  choice-by x y z choice kb1 n false true c ea eb ec p q r =
+      let e = eqb-true choice 1 eb in
+      same (nowhere y) q (
+        λ f. ⊎-elim (λ h. absurd (omega (arith, h .0))) (⊎-elim (λ h. f (h .1)) (λ h. absurd (omega (arith, h .0)))),
+        λ f g. f (inr (inl (e, g))),
+      )
+  choice-by x y z choice kb1 n false false true ea eb ec p q r =
+      let e = eqb-true choice 2 ec in
+      same (nowhere z) r (
+        λ f. ⊎-elim (λ h. absurd (omega (arith, h .0))) (⊎-elim (λ h. absurd (omega (arith, h .0))) (λ h. f (h .1))),
+        λ f g. f (inr (inr (e, g))),
+      )
+  choice-by x y z choice kb1 n false false false ea eb ec p q r = (
+    λ _. ⊎-elim (λ h. eqb-false choice 0 ea (h .0)) (⊎-elim (λ h. eqb-false choice 1 eb (h .0)) (λ h. eqb-false choice 2 ec (h .0))),
+    λ _. eo,
+  )
+
+decides-length : (p : Plan) (n : ℕ) → Decides (isNowhere (placeIn p n)) (BadLength p n)
+unfolding placeChosen placeFor onlyIn isNowhere
+decides-length p n =
+    let format = three (lengthInFormat (p .kb1)) (leb 1 n) (leb n 63) (decides-true (lengthInFormat (p .kb1))) (decides-le 1 n) (decides-le n 63) in
+    let extra = three (extraLength (p .kb1)) (leb 1 n) (leb n 255) (decides-true (extraLength (p .kb1))) (decides-le 1 n) (decides-le n 255) in
+    choice-by isNowhere _ refl _ _ _ (p .choice) (p .kb1) n (eqb (p .choice) 0) (eqb (p .choice) 1) (eqb (p .choice) 2) refl refl refl
+    (length-by isNowhere _ refl _ _ refl refl (p .kb1) n _ _ format extra) (only-by isNowhere _ refl _ refl _ format) (only-by isNowhere _ refl _ refl _ extra)
 
 build-no-numbered : (p : Plan) (n room : ℕ) → BuildNumbered p n room (buildNo p n room)
 unfolding buildNo
 build-no-numbered p n room =
+    let keys = not (goodPair (p .kb1) (p .kb2)) in
+    let form = not (takesForm (p .kb1) (formNumbered (p .form))) in
     let c =
-    chosen 8 (omega arith) (not (goodPair (p .kb1) (p .kb2))) (not (takesForm (p .kb1) (formNumbered (p .form)))) (isNowhere (placeFor (p .kb1) n))
-    (ltb room (sizeOf p n)) (decides-false (goodPair (p .kb1) (p .kb2))) (decides-form (p .kb1) (p .form)) (decides-length (p .kb1) n)
-    (λ _. decides-lt room (sizeOf p n)) in
-    record {
+    chosen 8 (omega arith) keys (ltb 2 (p .choice) || form) (isNowhere (placeIn p n)) (ltb room (sizeOf p n)) (decides-false (goodPair (p .kb1) (p .kb2)))
+    (decides-unannounced p) (decides-length p n) (λ _. decides-lt room (sizeOf p n)) in
+    subst (BuildNumbered p n room) (ap (λ (k : ℕ). if keys then 5 else k) (as-one (ltb 2 (p .choice)) form 6 _))
+    (record {
       five = c .five;
       six = c .six;
       seven = c .seven;
       eight = c .later;
       built = c .none;
       no-other = ⊎-elim (λ e. inl e) (⊎-elim (λ h. inr (h .0, omega (arith, h .1))) (λ e. inr (omega arith, omega arith))) (c .no-other);
-    }
+    })
 
 built-no : (p : Plan) (n room : ℕ) → builtOf p n room .no ≡ buildNo p n room
 unfolding builtOf
@@ -225,7 +267,7 @@ build-numbered p bytes out r after b =
 -- The size that 8 asks for is that of the frame.
 pub frame-size : (p : Plan) (bytes : List ℕ) → length (planned p bytes) ≡ sizeOf p (length bytes)
 unfolding planned sizeOf
-frame-size p bytes = frame-length (formNumbered (p .form)) (placeFor (p .kb1) (length bytes)) (p .target) (p .source) bytes
+frame-size p bytes = frame-length (formNumbered (p .form)) (placeIn p (length bytes)) (p .target) (p .source) bytes
 
 -- A REFUSAL OF BUILDING leaves the lent buffer as it was, and its length is 0.
 pub build-as-before : (p : Plan) (bytes out : List ℕ) (r : Built) (after : List ℕ) → Builds p bytes out r after → Not (r .no ≡ 0)

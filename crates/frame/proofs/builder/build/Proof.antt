@@ -9,7 +9,7 @@ use lib.ListN.{length}
 use Rattle.base.specs.Numbers.{taken}
 use Rattle.keys.specs.declared.Form.{Form}
 use Rattle.frame.specs.Layout.{formNumbered, headSize, frameOf}
-use Rattle.frame.specs.Build.{placeFor, planned, sizeOf, buildNo, notBuilt, builtOf, over, bufferAfter, Builds}
+use Rattle.frame.specs.Build.{placeIn, planned, sizeOf, buildNo, notBuilt, builtOf, over, bufferAfter, Builds}
 use Rattle.frame.specs.declared.Place.{Place}
 use Rattle.frame.specs.declared.Plan.{Plan}
 use Rattle.frame.proofs.Announced.{writable}
@@ -17,7 +17,7 @@ use Rattle.frame.proofs.builder.build.Statement.{statement}
 use Rattle.frame.proofs.builder.build.Tie as tie
 
 -- what was written is the frame that is planned
-planned-is : (p : Plan) (bytes : List ℕ) (form : Form) (place : Place) → form ≡ formNumbered (p .form) → place ≡ placeFor (p .kb1) (length bytes)
+planned-is : (p : Plan) (bytes : List ℕ) (form : Form) (place : Place) → form ≡ formNumbered (p .form) → place ≡ placeIn p (length bytes)
     → frameOf form place (p .target) (p .source) bytes ≡ planned p bytes
 unfolding planned
 planned-is p bytes form place ef ep = λ i. frameOf (ef i) (ep i) (p .target) (p .source) bytes
@@ -29,7 +29,7 @@ module _ (p : Plan) (bytes out : List ℕ) (k : ℕ) (ek : k ≡ buildNo p (leng
   builds-refused h = record { answer = rw (← ek, ne-eqb k 0 h); memory = rw (← ek, ne-eqb k 0 h) }
 
   builds-done : (form : Form) (place : Place) (len : ℕ) (after : List ℕ) → k ≡ taken → form ≡ formNumbered (p .form)
-      → place ≡ placeFor (p .kb1) (length bytes) → len ≡ headSize form place + length bytes + 1
+      → place ≡ placeIn p (length bytes) → len ≡ headSize form place + length bytes + 1
       → after ≡ over (frameOf form place (p .target) (p .source) bytes) out → Builds p bytes out (record { no = taken; len = len }) after
   unfolding builtOf bufferAfter sizeOf
   builds-done form place len after e ef ep el em = record {
@@ -46,13 +46,13 @@ returns c = builds-refused _ _ _ _ (c .before .build-no .ensures) (c .if1 .taken
 form-numbered-requires : tie.Need-form-numbered-requires
 form-numbered-requires c κs = search needs
 
-place-for-requires : tie.Need-place-for-requires
-place-for-requires c κs = search needs
+place-in-requires : tie.Need-place-in-requires
+place-in-requires c κs = search needs
 
 write-requires : tie.Need-write-requires
 write-requires c κs =
     let e = c .before .before .before in
-    writable (e .before .before .before .before .args .p) _ _ _ _ _ (e .before .build-no .ensures) (e .if1 .left) (c .before .before .form-numbered .ensures) (c .before .place-for .ensures)
+    writable (e .before .before .before .before .args .p) _ _ _ _ _ (e .before .build-no .ensures) (e .if1 .left) (c .before .before .form-numbered .ensures) (c .before .place-in .ensures)
 
 same-length : tie.Need-same-length
 same-length c = search needs
@@ -62,7 +62,7 @@ returns-2 c =
     let w = c .before .before in
     let pf = w .before .before in
     let e = pf .before .before in
-    builds-done _ _ _ _ (e .before .build-no .ensures) _ _ _ _ (e .if1 .left) (pf .before .form-numbered .ensures) (pf .place-for .ensures) (w .write .ensures .0)
+    builds-done _ _ _ _ (e .before .build-no .ensures) _ _ _ _ (e .if1 .left) (pf .before .form-numbered .ensures) (pf .place-in .ensures) (w .write .ensures .0)
     (w .write .ensures .1)
 
 pub build-spec : {M : Type 1} → statement M
@@ -72,7 +72,7 @@ build-spec =
     build-no-requires
     returns
     form-numbered-requires
-    place-for-requires
+    place-in-requires
     write-requires
     same-length
     returns-2)
