@@ -67,30 +67,26 @@ module _ (place : Place) (bit : Bool) (n most : ℕ) where
   unfolding onlyIn
   only-there h = only-by _ refl h
 
-only-format : (kb1 n m : ℕ) → m ≤ 63 → isNowhere (onlyIn Format (lengthInFormat kb1) n m) ≡ false → Placed kb1 (onlyIn Format (lengthInFormat kb1) n m) n
-only-format kb1 n m few h =
-    let o = only-there Format (lengthInFormat kb1) n m h in
-    subst (λ (x : Place). Placed kb1 x n) (sym (o .0)) (o .1, o .2, omega (arith, o .3))
-
-only-extra : (kb1 n m : ℕ) → m ≤ 255 → isNowhere (onlyIn Extra (extraLength kb1) n m) ≡ false → Placed kb1 (onlyIn Extra (extraLength kb1) n m) n
-only-extra kb1 n m few h =
-    let o = only-there Extra (extraLength kb1) n m h in
-    subst (λ (x : Place). Placed kb1 x n) (sym (o .0)) (o .1, o .2, omega (arith, o .3))
-
--- .. and so by any choice
 abbrev Fitting : ℕ → ℕ → Place → Type 0
 Fitting kb1 n place = isNowhere place ≡ false → Placed kb1 place n
+
+only-fits : (kb1 : ℕ) (place : Place) (bit : Bool) (n most : ℕ) → ((bit ≡ true) × (1 ≤ n) × (n ≤ most) → Placed kb1 place n)
+    → Fitting kb1 n (onlyIn place bit n most)
+only-fits kb1 place bit n most f h =
+    let o = only-there place bit n most h in
+    subst (λ (x : Place). Placed kb1 x n) (sym (o .0)) (f (o .1, o .2, o .3))
 
 nowhere-fits : (kb1 n : ℕ) → Fitting kb1 n Nowhere
 unfolding isNowhere
 nowhere-fits kb1 n h = absurd (true≢false h)
 
+-- .. and so by any choice
 pub placed-for : (choice kb1 n : ℕ) → isNowhere (placeChosen choice kb1 n) ≡ false → Placed kb1 (placeChosen choice kb1 n) n
 unfolding placeChosen
 placed-for choice kb1 n =
     by-test (Fitting kb1 n) (eqb choice shortest) (λ _. placed-shortest kb1 n)
-    (λ _. by-test (Fitting kb1 n) (eqb choice inFormatByte) (λ _. only-format kb1 n _ (omega arith))
-    (λ _. by-test (Fitting kb1 n) (eqb choice inExtraByte) (λ _. only-extra kb1 n _ (omega arith)) (λ _. nowhere-fits kb1 n)))
+    (λ _. by-test (Fitting kb1 n) (eqb choice inFormatByte) (λ _. only-fits kb1 _ _ n _ (λ f. (f .0, f .1, omega (arith, f .2))))
+    (λ _. by-test (Fitting kb1 n) (eqb choice inExtraByte) (λ _. only-fits kb1 _ _ n _ (λ f. (f .0, f .1, omega (arith, f .2)))) (λ _. nowhere-fits kb1 n)))
 
 -- and such a length passes the first test
 first-by : (bit : Bool) (n most : ℕ) (other : Place) → bit ≡ true → 1 ≤ n → n ≤ most
