@@ -33,7 +33,7 @@ badKeys = 5
 abbrev pub badForm : ℕ
 badForm = 6
 
--- length
+-- length; of building also a place chosen for it that is not announced or does not hold it
 abbrev pub badLength : ℕ
 badLength = 7
 

@@ -9,7 +9,7 @@ use Rattle.starts.specs.Starts.{complement as inverse}
 use Rattle.frame.specs.Layout.{formNumbered, formatForm, lowBits, addressesOf, extraOf, addressCount, extraCount, headSize, headOf, total, checksumOf, bodyOf, frameOf, carried, isNowhere}
 use Rattle.frame.specs.Build.{placeFor, onlyIn, placeChosen, planned, sizeOf, buildNo, builtOf}
 use Rattle.frame.specs.Read.{placeRead, lengthRead, laidOf, judged, readOf, dataOf}
-use Rattle.bench.specs.Bench.{codes, Says, table, choices, Every}
+use Rattle.bench.specs.Bench.{codes, Says, table, Every}
 
 -- no minimum is below a maximum of 0
 zero-refused : (a b c d : ℕ) → decodedOf (codes a 0x00 b c d) ≡ notDecoded
@@ -19,9 +19,4 @@ zero-refused a b c d = rw (le-ltb (a * 500) 0 (omega arith))
 pub bench : Every table
 unfolding Every Says table inverse goodPair lengthInFormat extraLength noAddresses withAddresses isExtended takesForm isUnlimited isBelow isAllowed minOf p2Half p2MaxOf p3MaxOf windowsBy decodedOf formNumbered formatForm lowBits addressesOf extraOf addressCount extraCount headSize headOf total checksumOf bodyOf frameOf carried isNowhere placeFor onlyIn placeChosen planned sizeOf buildNo builtOf placeRead lengthRead laidOf judged readOf dataOf
 bench =
-    ((refl, refl, refl, refl), ((refl, refl, refl, refl), ((refl, refl, refl, refl), (refl, ((refl, (λ s. refl), (λ choice form target source n room. refl)), ((refl, (λ s. refl), (λ choice form target source n room. refl)), (refl, (refl, (refl, (refl, (zero-refused, (refl, (refl, tt)))))))))))))
-
-pub choice-values : Every choices
-unfolding Every Says choices goodPair lengthInFormat extraLength noAddresses withAddresses isExtended takesForm formNumbered formatForm lowBits addressesOf extraOf addressCount extraCount headSize headOf total checksumOf bodyOf frameOf carried isNowhere placeFor onlyIn placeChosen planned sizeOf buildNo builtOf placeRead lengthRead laidOf judged readOf dataOf
-choice-values =
-    ((refl, refl, refl, refl), ((refl, refl, refl, refl), ((refl, refl, refl, refl), (refl, ((refl, refl, refl, refl), (refl, (refl, (refl, (refl, tt)))))))))
+    ((refl, refl, refl, refl), ((refl, refl, refl, refl), ((refl, refl, refl, refl), ((refl, refl, refl, refl), ((refl, refl, refl, refl), ((refl, refl, refl, refl), (refl, ((refl, refl, refl, refl), (refl, (refl, (refl, (refl, (refl, ((refl, (λ s. refl), (λ choice form target source n room. refl)), ((refl, (λ s. refl), (λ choice form target source n room. refl)), (refl, (refl, (refl, (refl, (zero-refused, (refl, (refl, tt))))))))))))))))))))))

@@ -85,7 +85,9 @@ fn built(choice: u8, kb1: u8, n: usize) -> Answer {
 }
 
 // Runs one value and prints its line: 1 where it is right, else 0.
-fn run(choice: u8, kb1: u8, n: usize, want: Answer) -> u64 {
+fn run(choice: u8, kb1: u8, n: usize, want: Answer) -> u64
+    ensures { λ r. ⌜ r ≤ 1 ⌝ }
+{
     let got = built(choice, kb1, n);
     io::print_decimal(STDOUT_FILENO, n as u64);
     io::write_all(STDOUT_FILENO, b" bytes under ");
@@ -133,7 +135,7 @@ fn run_shortest() -> u64 {
     let a = run(frame::SHORTEST, 0xE9, 63, taken(67, 0xBF, 0x11, 0xF1, 7));
     let b = run(frame::SHORTEST, 0xE9, 64, refused(7));
     let c = run(frame::SHORTEST, 0xEF, 64, taken(69, 0x80, 0x11, 0xF1, 0x40));
-    (a % 2) + (b % 2) + (c % 2)
+    a + b + c
 }
 
 // The values of the other choices: how many are right, of 6.
@@ -149,7 +151,7 @@ fn run_chosen() -> u64 {
     let d = run(frame::IN_EXTRA_BYTE, 0xEF, 2, taken(7, 0x80, 0x11, 0xF1, 2));
     let e = run(frame::IN_EXTRA_BYTE, 0xE9, 2, refused(7));
     let f = run(3, 0xEF, 2, refused(6));
-    (a % 2) + (b % 2) + (c % 2) + (d % 2) + (e % 2) + (f % 2)
+    a + b + c + d + e + f
 }
 
 fn main() {

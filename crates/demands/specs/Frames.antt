@@ -38,8 +38,8 @@ BadForm kb1 form =
 abbrev pub BadChoice : ℕ → Type 0
 BadChoice choice = 2 < choice
 
-abbrev pub Unannounced : Plan → Type 0
-Unannounced p = BadChoice (p .choice) ⊎ BadForm (p .kb1) (p .form)
+abbrev pub BadPlan : Plan → Type 0
+BadPlan p = BadChoice (p .choice) ⊎ BadForm (p .kb1) (p .form)
 
 -- 7: "Length 1 to 63 goes in the format byte if KB1 bit 0 is set; otherwise lengths 1 to 255 take the extra byte if bit 1 is set; all else is 7."
 abbrev pub GoesInFormat : ℕ → ℕ → Type 0
@@ -48,7 +48,8 @@ GoesInFormat kb1 n = (lengthInFormat kb1 ≡ true) × (1 ≤ n) × (n ≤ 63)
 abbrev pub TakesExtra : ℕ → ℕ → Type 0
 TakesExtra kb1 n = (extraLength kb1 ≡ true) × (1 ≤ n) × (n ≤ 255)
 
--- .. and "for a length form chosen but not announced or a length above 63 chosen for the format byte": there is no falling back
+-- the lengths that have a place by the choice; all else is 7, also "a length form chosen but not announced or a length above 63 chosen for the format byte":
+-- there is no falling back
 abbrev pub HasPlace : ℕ → ℕ → ℕ → Type 0
 HasPlace choice kb1 n =
     ((choice ≡ 0) × (GoesInFormat kb1 n ⊎ TakesExtra kb1 n))
@@ -65,10 +66,10 @@ NoRoom p n room = room < sizeOf p n
 -- THE NUMBER OF BUILDING from n bytes of data into a buffer of `room` bytes: each exactly when its condition holds and that of no smaller one does.
 pub record BuildNumbered (p : Plan) (n room no : ℕ) : Type 0 where
   pub five : (no ≡ 5) ↔ BadKeys (p .kb1) (p .kb2)
-  pub six : (no ≡ 6) ↔ (Not (BadKeys (p .kb1) (p .kb2)) × Unannounced p)
-  pub seven : (no ≡ 7) ↔ (Not (BadKeys (p .kb1) (p .kb2)) × Not (Unannounced p) × BadLength p n)
-  pub eight : (no ≡ 8) ↔ (Not (BadKeys (p .kb1) (p .kb2)) × Not (Unannounced p) × Not (BadLength p n) × NoRoom p n room)
-  pub built : (no ≡ 0) ↔ (Not (BadKeys (p .kb1) (p .kb2)) × Not (Unannounced p) × Not (BadLength p n) × Not (NoRoom p n room))
+  pub six : (no ≡ 6) ↔ (Not (BadKeys (p .kb1) (p .kb2)) × BadPlan p)
+  pub seven : (no ≡ 7) ↔ (Not (BadKeys (p .kb1) (p .kb2)) × Not (BadPlan p) × BadLength p n)
+  pub eight : (no ≡ 8) ↔ (Not (BadKeys (p .kb1) (p .kb2)) × Not (BadPlan p) × Not (BadLength p n) × NoRoom p n room)
+  pub built : (no ≡ 0) ↔ (Not (BadKeys (p .kb1) (p .kb2)) × Not (BadPlan p) × Not (BadLength p n) × Not (NoRoom p n room))
   pub no-other : (no ≡ 0) ⊎ ((5 ≤ no) × (no ≤ 8))
 
 -- ---- reading
@@ -123,8 +124,7 @@ pub record ReadNumbered (kb1 kb2 : ℕ) (s : List ℕ) (no : ℕ) : Type 0 where
   pub no-other : (no ≡ 0) ⊎ ((5 ≤ no) × (no ≤ 7)) ⊎ (no ≡ 9)
 
 -- ---- what is built
--- a frame that has the length n in the format byte, which are its low six bits; or in the extra byte: the low six bits are 0, and it stands after the
--- addresses
+-- a frame that has the length n in the low six bits of its format byte; or in the extra byte: the low six bits are 0, and it stands after the addresses
 abbrev pub InFormatByte : ℕ → List ℕ → Type 0
 InFormatByte n frame = lowSix frame ≡ n
 

@@ -1,27 +1,22 @@
 -- Every frame that good key bytes announce is built, by the plan that names its form, its place and its addresses. Assumes nothing.
 use mathlib.Core.Path.{_≡_, refl, sym, ap, _∙_}
-use mathlib.Core.Bool.{Bool, true, false}
+use mathlib.Core.Bool.{false}
 use mathlib.Core.List.{List}
-use Prim.Native.Nat.{ℕ, _+_, _≤_}
-use borrow.Author.Tests.{le-leb, le-ltb}
-use lib.Dec.{leb, ltb}
+use Prim.Native.Nat.{ℕ, _≤_}
+use borrow.Author.Tests.{le-ltb}
+use lib.Dec.{ltb}
 use lib.ListN.{length}
 use Rattle.base.specs.Numbers.{taken}
-use Rattle.keys.specs.Keys.{takesForm, lengthInFormat, extraLength}
-use Rattle.keys.specs.declared.Form.{Form}
-use Rattle.frame.specs.Layout.{formNumbered, numberOf, headSize, frameOf, isNowhere}
+use Rattle.keys.specs.Keys.{lengthInFormat, extraLength}
+use Rattle.frame.specs.Layout.{formNumbered, numberOf}
 use Rattle.frame.specs.Build.{onlyIn, placeChosen, placeIn, planned, sizeOf, buildNo, builtOf, over, bufferAfter, Builds}
-use Rattle.frame.specs.Announced.{Placed, Announced, IsFrame, choiceOf, planOf}
+use Rattle.frame.specs.Announced.{Placed, IsFrame, choiceOf, planOf}
 use Rattle.frame.specs.declared.Place.{Place}
 use Rattle.frame.specs.declared.Place.the-variants.{Format, Extra, Nowhere}
 use Rattle.frame.specs.declared.Plan.{Plan}
 use Rattle.frame.proofs.Sizes.{frame-length}
-use Rattle.frame.proofs.Announced.{somewhere}
+use Rattle.frame.proofs.Announced.{somewhere, there-by}
 use Rattle.frame.proofs.WellRead.{form-again}
-
-only-fits : (place : Place) (bit : Bool) (n most : ℕ) → bit ≡ true → 1 ≤ n → n ≤ most → onlyIn place bit n most ≡ place
-unfolding onlyIn
-only-fits place bit n most e some few = rw (e, le-leb 1 n some, le-leb n most few)
 
 -- the choice of a place is one of the three, and leads there
 few-choices : (place : Place) → ltb 2 (choiceOf place) ≡ false
@@ -30,9 +25,9 @@ few-choices Extra = refl
 few-choices Nowhere = refl
 
 choice-place : (kb1 : ℕ) (place : Place) (n : ℕ) → Placed kb1 place n → placeChosen (choiceOf place) kb1 n ≡ place
-unfolding placeChosen
-choice-place kb1 Format n p = only-fits Format (lengthInFormat kb1) n _ (p .0) (p .1) (p .2)
-choice-place kb1 Extra n p = only-fits Extra (extraLength kb1) n _ (p .0) (p .1) (p .2)
+unfolding placeChosen onlyIn
+choice-place kb1 Format n p = there-by (lengthInFormat kb1) n _ _ _ (p .0) (p .1) (p .2)
+choice-place kb1 Extra n p = there-by (extraLength kb1) n _ _ _ (p .0) (p .1) (p .2)
 choice-place kb1 Nowhere n p = absurd p
 
 module _ (kb1 kb2 : ℕ) (s : List ℕ) (f : IsFrame kb1 kb2 s) where

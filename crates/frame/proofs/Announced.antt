@@ -4,7 +4,7 @@ use mathlib.Core.Bool.{Bool, true, false, _&&_, not, true≢false}
 use Prim.Native.Nat.{ℕ, _≤_}
 use native.Mathlib.Omega.{arith}
 use borrow.Author.Tests.{leb-true, le-leb, ltb-false}
-use lib.Dec.{eqb, leb, ltb}
+use lib.Dec.{eqb, leb}
 use Rattle.base.specs.Choice.{if_then_else_}
 use Rattle.base.specs.Numbers.{taken, badKeys, badForm, badLength, noRoom}
 use Rattle.base.proofs.Tests.{and-split, by-test}
@@ -88,15 +88,15 @@ placed-for choice kb1 n =
     (λ _. by-test (Fitting kb1 n) (eqb choice inFormatByte) (λ _. only-fits kb1 _ _ n _ (λ f. (f .0, f .1, omega (arith, f .2))))
     (λ _. by-test (Fitting kb1 n) (eqb choice inExtraByte) (λ _. only-fits kb1 _ _ n _ (λ f. (f .0, f .1, omega (arith, f .2)))) (λ _. nowhere-fits kb1 n)))
 
--- and such a length passes the first test
-first-by : (bit : Bool) (n most : ℕ) (other : Place) → bit ≡ true → 1 ≤ n → n ≤ most
-    → (if bit && (leb 1 n && leb n most) then Format else other) ≡ Format
-first-by bit n most other e some few = rw (e, le-leb 1 n some, le-leb n most few)
+-- and such a length passes the test of its place
+pub there-by : (bit : Bool) (n most : ℕ) (place other : Place) → bit ≡ true → 1 ≤ n → n ≤ most
+    → (if bit && (leb 1 n && leb n most) then place else other) ≡ place
+there-by bit n most place other e some few = rw (e, le-leb 1 n some, le-leb n most few)
 
 -- A LENGTH THAT FITS IN THE FORMAT BYTE GOES THERE, if KB1 announces that place, and not in the extra byte
 pub format-first : (kb1 n : ℕ) → Placed kb1 Format n → placeFor kb1 n ≡ Format
 unfolding placeFor
-format-first kb1 n p = first-by (lengthInFormat kb1) n _ _ (p .0) (p .1) (omega (arith, p .2))
+format-first kb1 n p = there-by (lengthInFormat kb1) n _ _ _ (p .0) (p .1) (omega (arith, p .2))
 
 -- the number 0 comes only where no test refuses
 pub record NoneRefuses (p : Plan) (n room : ℕ) : Type 0 where
@@ -119,7 +119,7 @@ unfolding buildNo
 none-refuses p n room e =
     let t = through (goodPair (p .kb1) (p .kb2)) _ (takesForm (p .kb1) (formNumbered (p .form))) (isNowhere (placeIn p n)) _ e in
     record {
-      chosen = omega (arith, ltb-false _ (p .choice) (t .1));
+      chosen = ltb-false _ (p .choice) (t .1);
       announced = record { good = t .0; takes = t .2; placed = placed-for _ (p .kb1) n (t .3) };
       roomy = ltb-false room _ (t .4);
     }

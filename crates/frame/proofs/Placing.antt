@@ -9,7 +9,7 @@ use Rattle.base.specs.Numbers.{taken}
 use Rattle.keys.specs.Keys.{lengthInFormat, extraLength}
 use Rattle.keys.specs.declared.Form.{Form}
 use Rattle.frame.specs.Layout.{formNumbered, topBits, lowBits, addressesOf, extraOf, addressCount, headOf, checksumOf, bodyOf, frameOf, isNowhere}
-use Rattle.frame.specs.Build.{placeFor, placeChosen, placeIn, planned, Builds}
+use Rattle.frame.specs.Build.{placeFor, placeChosen, planned, Builds}
 use Rattle.frame.specs.Announced.{Placed}
 use Rattle.frame.specs.declared.Place.{Place}
 use Rattle.frame.specs.declared.Place.the-variants.{Format, Extra, Nowhere}

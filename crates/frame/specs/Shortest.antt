@@ -1,5 +1,6 @@
--- Document 01's builder, which knew no choice: what `build` promised before document 02's Two, word for word. It puts the length where the frame is shortest,
--- and looks at no choice. `build` is proved to answer so under the choice 0 (proofs/Shortest.antt). Assumes nothing.
+-- Document 01's builder, which knew no choice: what `build` promised before document 02's Two, word for word, with `placeFor`, `notBuilt` and `over`, which
+-- stayed in Build.antt. It puts the length where the frame is shortest, and looks at no choice. `build` is proved to answer so under the choice 0
+-- (proofs/Shortest.antt). Assumes nothing.
 use mathlib.Core.Path.{_≡_}
 use Prim.Native.Nat.{ℕ, _+_}
 use mathlib.Core.Bool.{not}

@@ -26,14 +26,14 @@ fn place_for(kb1: u8, n: usize) -> Place
     Place::Nowhere
 }
 
-// A place that is announced or not, for a length from 1 to the most that it holds; else nowhere.
+// One place and no other: there if it is announced, for a length from 1 to the most that it holds.
 fn only_in(place: Place, announced: bool, n: usize, most: usize) -> Place
     ensures { λ r. ⌜ r ≡ onlyIn place announced n most ⌝ }
 {
-    if announced & ((1 <= n) & (n <= most)) {
-        return place;
+    if !(announced & ((1 <= n) & (n <= most))) {
+        return Place::Nowhere;
     }
-    Place::Nowhere
+    place
 }
 
 // Where a length goes by the choice.

@@ -34,7 +34,7 @@ use Rattle.frame.specs.declared.Built.{Built}
 use Rattle.frame.specs.declared.Reading.{Reading}
 use Rattle.frame.proofs.Sizes.{frame-length}
 use Rattle.demands.specs.Refusals.{Not}
-use Rattle.demands.specs.Frames.{BadChoice, BadForm, Unannounced, GoesInFormat, TakesExtra, HasPlace, BadLength, BuildNumbered, Below, Allowed}
+use Rattle.demands.specs.Frames.{BadForm, BadPlan, GoesInFormat, TakesExtra, HasPlace, BadLength, BuildNumbered, Below, Allowed}
 use Rattle.demands.specs.Frames.{lowSix, addressesIn, extraByte, sizeSaid, BadMode, NotPlaced, BadSlice, BadSum, ReadNumbered}
 use Rattle.demands.proofs.Numbers.Numbering.{Decides, either-of, both, off, meets, misses}
 
@@ -172,8 +172,8 @@ unfolding formNumbered
 decides-form kb1 n = form-by kb1 n (eqb n 0) (eqb n 1) (eqb n 2) refl refl refl
 
 -- 6, also by the choice: two tests one after another with one number are one
-decides-unannounced : (p : Plan) → Decides (ltb 2 (p .choice) || not (takesForm (p .kb1) (formNumbered (p .form)))) (Unannounced p)
-decides-unannounced p = either-of (ltb 2 (p .choice)) _ (decides-lt 2 (p .choice)) (λ _. decides-form (p .kb1) (p .form))
+decides-plan : (p : Plan) → Decides (ltb 2 (p .choice) || not (takesForm (p .kb1) (formNumbered (p .form)))) (BadPlan p)
+decides-plan p = either-of (ltb 2 (p .choice)) _ (decides-lt 2 (p .choice)) (λ _. decides-form (p .kb1) (p .form))
 
 as-one : (a b : Bool) (k other : ℕ) → (if a || b then k else other) ≡ (if a then k else if b then k else other)
 as-one true b k other = refl
@@ -233,7 +233,7 @@ build-no-numbered p n room =
     let form = not (takesForm (p .kb1) (formNumbered (p .form))) in
     let c =
     chosen 8 (omega arith) keys (ltb 2 (p .choice) || form) (isNowhere (placeIn p n)) (ltb room (sizeOf p n)) (decides-false (goodPair (p .kb1) (p .kb2)))
-    (decides-unannounced p) (decides-length p n) (λ _. decides-lt room (sizeOf p n)) in
+    (decides-plan p) (decides-length p n) (λ _. decides-lt room (sizeOf p n)) in
     subst (BuildNumbered p n room) (ap (λ (k : ℕ). if keys then 5 else k) (as-one (ltb 2 (p .choice)) form 6 _))
     (record {
       five = c .five;
@@ -268,6 +268,13 @@ build-numbered p bytes out r after b =
 pub frame-size : (p : Plan) (bytes : List ℕ) → length (planned p bytes) ≡ sizeOf p (length bytes)
 unfolding planned sizeOf
 frame-size p bytes = frame-length (formNumbered (p .form)) (placeIn p (length bytes)) (p .target) (p .source) bytes
+
+-- A BUILDER THAT JUDGES ROOM BY THE SHORTEST FRAME is shut out: by two data bytes in form 1 under EF 8F, which by choice 2 are a frame of seven bytes, and a
+-- buffer of six.
+pub short-room-shut : (target source k : ℕ) → k ≡ 0
+    → BuildNumbered (record { choice = 2; kb1 = 0xEF; kb2 = 0x8F; form = 1; target = target; source = source }) 2 6 k → ⊥
+unfolding sizeOf placeChosen onlyIn headSize addressCount extraCount formNumbered extraLength
+short-room-shut target source k e b = let r = b .built .0 e in r .3 (omega arith)
 
 -- A REFUSAL OF BUILDING leaves the lent buffer as it was, and its length is 0.
 pub build-as-before : (p : Plan) (bytes out : List ℕ) (r : Built) (after : List ℕ) → Builds p bytes out r after → Not (r .no ≡ 0)
