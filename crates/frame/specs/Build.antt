@@ -21,7 +21,7 @@ placeFor kb1 n =
     if lengthInFormat kb1 && (leb 1 n && leb n 63) then Format else
     if extraLength kb1 && (leb 1 n && leb n 255) then Extra else Nowhere
 
--- the choices: "shortest as now (0), in the format byte (1), or in the extra byte (2)", which is the last of them
+-- the choices: "shortest as now (0), in the format byte (1), or in the extra byte (2)"; one above the last is 6
 abbrev pub shortest : ℕ
 shortest = 0
 
