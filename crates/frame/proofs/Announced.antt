@@ -67,6 +67,7 @@ module _ (place : Place) (bit : Bool) (n most : ℕ) where
   unfolding onlyIn
   only-there h = only-by _ refl h
 
+-- (a place fits where the length goes there only if it holds it)
 abbrev Fitting : ℕ → ℕ → Place → Type 0
 Fitting kb1 n place = isNowhere place ≡ false → Placed kb1 place n
 

@@ -78,17 +78,17 @@ module _ (choice kb1 : ℕ) (form : Form) (t s : ℕ) (d : List ℕ) (placed : P
   some : isNowhere place ≡ false
   some = somewhere kb1 place (length d) placed
 
-  at-format : place ≡ Format → Placed kb1 Format (length d) × InFormat (length d) form (frameOf form place t s d)
-  at-format e = (
-    subst (λ (x : Place). Placed kb1 x (length d)) e placed,
-    subst (λ (x : Place). InFormat (length d) form (frameOf form x t s d)) (sym e) (stands-in-format form t s d),
+  there : (x : Place) (Stands : List ℕ → Type 0) → Stands (frameOf form x t s d) → place ≡ x → Placed kb1 x (length d) × Stands (frameOf form place t s d)
+  there x Stands h e = (
+    subst (λ (y : Place). Placed kb1 y (length d)) e placed,
+    subst (λ (y : Place). Stands (frameOf form y t s d)) (sym e) h,
   )
 
+  at-format : place ≡ Format → Placed kb1 Format (length d) × InFormat (length d) form (frameOf form place t s d)
+  at-format = there Format (InFormat (length d) form) (stands-in-format form t s d)
+
   at-extra : place ≡ Extra → Placed kb1 Extra (length d) × InExtra (length d) form (frameOf form place t s d)
-  at-extra e = (
-    subst (λ (x : Place). Placed kb1 x (length d)) e placed,
-    subst (λ (x : Place). InExtra (length d) form (frameOf form x t s d)) (sym e) (stands-in-extra form t s d),
-  )
+  at-extra = there Extra (InExtra (length d) form) (stands-in-extra form t s d)
 
   length-at : choice ≤ 2 → LengthAt choice kb1 (length d) form (frameOf form place t s d)
   length-at c = record {

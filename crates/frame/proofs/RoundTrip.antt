@@ -11,6 +11,7 @@ use lib.ListN.{length, getD, take, length-append}
 use lib.Seq.{take-at, getD-at}
 use Rattle.base.specs.Choice.{if_then_else_}
 use Rattle.base.specs.Numbers.{taken}
+use Rattle.base.proofs.Tests.{by-test}
 use Rattle.keys.specs.Keys.{takesForm}
 use Rattle.keys.specs.declared.Form.{Form}
 use Rattle.keys.specs.declared.Form.the-variants.{Plain, Physical, Functional, Foreign}
@@ -101,7 +102,7 @@ number-back kb1 n h = by-number (eqb n 0) (eqb n 1) (eqb n 2) refl refl refl h
     by-number false false false ea eb ec h = absurd (false≢true h)
 
 -- the number of an answer
-built-no : (p : Plan) (n room : ℕ) → builtOf p n room .no ≡ buildNo p n room
+pub built-no : (p : Plan) (n room : ℕ) → builtOf p n room .no ≡ buildNo p n room
 unfolding builtOf
 built-no p n room = by-no (eqb (buildNo p n room) taken) refl
   where
@@ -148,6 +149,15 @@ built-small p bytes out r after b e =
       built-reads-back p bytes out r after b e .size,
       frame-small (p .kb1) (p .kb2) (formNumbered (p .form)) (placeIn p (length bytes)) (p .target) (p .source) bytes (x .announced),
     )
+
+-- .. and, taken or refused, no more than the buffer
+pub built-fits : (p : Plan) (bytes out : List ℕ) (r : Built) (after : List ℕ) → Builds p bytes out r after → r .len ≤ length out
+unfolding builtOf
+built-fits p bytes out r after b =
+    let n = length bytes in
+    rw (b .answer)
+    (by-test (λ (x : Built). x .len ≤ length out) (eqb (buildNo p n (length out)) taken)
+    (λ e. none-refuses p n (length out) (eqb-true (buildNo p n (length out)) taken e) .roomy) (λ _. omega arith))
 
 -- .. and is the frame that is planned: so many bytes at the front
 pub built-front : (p : Plan) (bytes out : List ℕ) (r : Built) (after : List ℕ) → Builds p bytes out r after → r .no ≡ taken

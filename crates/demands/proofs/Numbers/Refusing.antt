@@ -27,12 +27,13 @@ use Rattle.timing.specs.declared.Encoded.{Encoded}
 use Rattle.timing.specs.Coded.{HasCodes}
 use Rattle.timing.proofs.RoundTrip.{codes-exactly, no-codes}
 use Rattle.frame.specs.Layout.{formNumbered, formatForm, addressCount, extraCount, headSize, total, checksumOf, isNowhere}
-use Rattle.frame.specs.Build.{placeFor, onlyIn, placeChosen, placeIn, planned, sizeOf, buildNo, notBuilt, builtOf, bufferAfter, Builds}
+use Rattle.frame.specs.Build.{placeFor, onlyIn, placeChosen, placeIn, planned, sizeOf, buildNo, builtOf, bufferAfter, Builds}
 use Rattle.frame.specs.Read.{formatByte, placeRead, lengthRead, lengthOf, notLaid, laidOf, notRead, judged, readOf}
 use Rattle.frame.specs.declared.Plan.{Plan}
 use Rattle.frame.specs.declared.Built.{Built}
 use Rattle.frame.specs.declared.Reading.{Reading}
 use Rattle.frame.proofs.Sizes.{frame-length}
+use Rattle.frame.proofs.RoundTrip.{built-no}
 use Rattle.demands.specs.Refusals.{Not}
 use Rattle.demands.specs.Frames.{BadForm, BadPlan, GoesInFormat, TakesExtra, HasPlace, BadLength, BuildNumbered, Below, Allowed}
 use Rattle.demands.specs.Frames.{lowSix, addressesIn, extraByte, sizeSaid, BadMode, NotPlaced, BadSlice, BadSum, ReadNumbered}
@@ -243,15 +244,6 @@ build-no-numbered p n room =
       built = c .none;
       no-other = ⊎-elim (λ e. inl e) (⊎-elim (λ h. inr (h .0, omega (arith, h .1))) (λ e. inr (omega arith, omega arith))) (c .no-other);
     })
-
-built-no : (p : Plan) (n room : ℕ) → builtOf p n room .no ≡ buildNo p n room
-unfolding builtOf
-built-no p n room = by-no (eqb (buildNo p n room) taken) refl
-  where
-    by-no : (b : Bool) → eqb (buildNo p n room) taken ≡ b
-        → (if b then record { no = taken; len = sizeOf p n } else notBuilt (buildNo p n room)) .no ≡ buildNo p n room
-    by-no true e = sym (eqb-true (buildNo p n room) taken e)
-    by-no false e = refl
 
 answered-no : (p : Plan) (bytes out : List ℕ) (r : Built) (after : List ℕ) → Builds p bytes out r after
     → buildNo p (length bytes) (length out) ≡ r .no
