@@ -1,6 +1,8 @@
 // Answers questions: a question a line from standard input, or one question as the words of the
 // command line; an answer a line to standard output. It keeps no more than a line, 64 KiB of what it
 // has read and 64 KiB of what it will write.
+#![tactic(auto)]
+
 ghost use Rattle.io.specs.Counts.{IsPrefixLen};
 
 use libc::{STDIN_FILENO, STDOUT_FILENO};
@@ -16,7 +18,7 @@ const FULL: usize = 65_536 - ANSWER_MOST;
 
 // How far it is: how many bytes of the line at hand were heard (one more than it may have, where it is
 // too long), how many bytes of answers wait, and whether all before them went out.
-#[derive(Drop)]
+#[derive(Clone, Copy)]
 struct Asked {
     heard: usize,
     waiting: usize,

@@ -15,25 +15,25 @@ const GREATEST: u64 = 18_446_744_073_709_551_615;
 
 // What was read of a question, and the place after it: five codes, all of a plan, the end of a window,
 // five windows.
-#[derive(Drop)]
+#[derive(Clone, Copy)]
 struct CodesWord {
     codes: Codes,
     to: usize,
 }
 
-#[derive(Drop)]
+#[derive(Clone, Copy)]
 struct PlanWord {
     plan: frame::Plan,
     to: usize,
 }
 
-#[derive(Drop)]
+#[derive(Clone, Copy)]
 struct LimitWord {
     limit: Limit,
     to: usize,
 }
 
-#[derive(Drop)]
+#[derive(Clone, Copy)]
 struct WindowsWord {
     windows: Windows,
     to: usize,

@@ -1,5 +1,7 @@
 // The numbers that a caller may get back, by name (`specs/Numbers.antt` has the same table for the
 // definitions), and sums and choices that several crates use.
+#![tactic(auto)]
+
 ghost use Rattle.std.specs.Prelude.{◌≡◌, ◌-◌};
 ghost use Rattle.base.specs.Choice.{if◌then◌else◌};
 ghost use Rattle.base.specs.Sums.{byte_sum, count_sum};
@@ -57,6 +59,7 @@ pub fn either64(first: bool, a: u64, b: u64) -> u64
 }
 
 // The sum of two bytes modulo 256.
+#[tactic(auto, unfolding(crate::specs::Sums::byte_sum))]
 pub fn byte_sum(a: u8, b: u8) -> u8
     ensures { result ≡ byte_sum a b }
 {
@@ -64,6 +67,7 @@ pub fn byte_sum(a: u8, b: u8) -> u8
 }
 
 // The sum of two counts, which stops at the greatest.
+#[tactic(auto, unfolding(crate::specs::Sums::count_sum))]
 pub fn count_sum(a: u64, b: u64) -> u64
     ensures { result ≡ count_sum a b }
 {

@@ -1,5 +1,7 @@
 // Runs the values of the link on the bench, and prints their reports as a listing has them: number,
 // reason, first byte, bytes, time. The file `stdout` beside src/ has what should come.
+#![tactic(auto)]
+
 use events::Event;
 use libc::STDOUT_FILENO;
 use link::Link;
@@ -7,7 +9,7 @@ use reports::{Counts, Report, Reports};
 use units::Micros;
 
 // A link, with the counts that it is lent.
-#[derive(Drop)]
+#[derive(Clone, Copy)]
 struct Session {
     link: Link,
     counts: Counts,

@@ -1,10 +1,12 @@
 // Runs the values on the bench that are to be run, and prints what came beside what should.
+#![tactic(auto)]
+
 ghost use Rattle.std.specs.Prelude.{◌≤◌};
 
 use libc::STDOUT_FILENO;
 
 // An answer of building: its number, its length, and the first four bytes of the buffer.
-#[derive(Drop)]
+#[derive(Clone, Copy)]
 struct Answer {
     no: u8,
     len: usize,

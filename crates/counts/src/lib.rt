@@ -1,4 +1,6 @@
 // The counts that the host lends, brought up to date where they stand.
+#![tactic(auto)]
+
 ghost use Rattle.std.specs.Prelude.{◌≡◌};
 ghost use Rattle.link.specs.Stepping.{counts_after};
 ghost use Rattle.link.specs.Stepping.{answer_of};

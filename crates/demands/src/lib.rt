@@ -1,1 +1,3 @@
 // The three demands as theorems: definitions and proofs only.
+#![tactic(auto)]
+

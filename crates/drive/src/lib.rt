@@ -1,4 +1,6 @@
 // A link driven over a list of events in memory, for measuring it from C.
+#![tactic(auto)]
+
 ghost use Rattle.std.specs.Prelude.{◌≡◌, ◌+◌, ◌≤◌, length};
 ghost use Rattle.reports.specs.Reporting.{listed};
 ghost use Rattle.drive.specs.Drive.{event_from, mixed, mixed_report, mixed_reports, begins, driven_by, event_at, digest_of};
@@ -15,7 +17,7 @@ const TWO_BYTES: u64 = 256 * 256;
 const BITS_32: u64 = TWO_BYTES * TWO_BYTES;
 
 // A link, the counts that it is lent, and a digest of its reports so far.
-#[derive(Drop)]
+#[derive(Clone, Copy)]
 struct Driven {
     link: Link,
     counts: Counts,
@@ -24,6 +26,7 @@ struct Driven {
 
 // An event from three numbers: its value, side and kind (these two by their letters) in the lowest
 // bytes of the first, its start, its end.
+#[tactic(auto, unfolding(crate::specs::Drive::event_from))]
 fn event_from(head: u64, start: u64, end: u64) -> Event
     ensures { result ≡ event_from head start end }
 {
@@ -37,6 +40,7 @@ fn event_from(head: u64, start: u64, end: u64) -> Event
 }
 
 // A digest with one number more.
+#[tactic(auto, unfolding(crate::specs::Drive::mixed))]
 fn mix(digest: u32, x: u64) -> u32
     ensures { result ≡ mixed digest x }
 {
@@ -44,6 +48,7 @@ fn mix(digest: u32, x: u64) -> u32
 }
 
 // A digest with a report more.
+#[tactic(auto, unfolding(crate::specs::Drive::mixed_report))]
 fn mix_report(digest: u32, x: Report) -> u32
     ensures { result ≡ mixed_report digest x }
 {
@@ -58,6 +63,7 @@ fn mix_report(digest: u32, x: Report) -> u32
 }
 
 // A digest with an event's reports more.
+#[tactic(auto, unfolding(crate::specs::Drive::mixed_reports))]
 fn mix_reports(digest: u32, rs: Reports) -> u32
     ensures { result ≡ mixed_reports digest (listed rs) }
 {
@@ -81,6 +87,7 @@ fn mix_reports(digest: u32, rs: Reports) -> u32
 }
 
 // A fresh link.
+#[tactic(auto, unfolding(crate::specs::Drive::begins))]
 fn begin() -> Driven
     ensures { result ≡ begins }
 {
@@ -92,6 +99,7 @@ fn begin() -> Driven
 }
 
 // One event more.
+#[tactic(auto, unfolding(crate::specs::Drive::driven_by))]
 fn drive_on(d: Driven, e: Event) -> Driven
     ensures { result ≡ driven_by d e }
 {
@@ -110,6 +118,7 @@ fn drive_on(d: Driven, e: Event) -> Driven
 }
 
 // The event whose three numbers stand at an index.
+#[tactic(auto, unfolding(crate::specs::Drive::event_at))]
 fn event_at(s: &[u64], at: usize) -> Event
     requires { at + 3 ≤ length s.now }
     ensures { result ≡ event_at s.now at }
@@ -119,6 +128,7 @@ fn event_at(s: &[u64], at: usize) -> Event
 
 // Drives a fresh link over events of three numbers each, and answers the digest of all reports.
 #[unsafe(no_mangle)]
+#[tactic(auto, unfolding(crate::specs::Drive::digest_of))]
 pub extern "C" fn wendrika_drive(events: &[u64]) -> u32
     ensures { result ≡ digest_of events.now }
 {

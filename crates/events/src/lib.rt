@@ -1,4 +1,6 @@
 // Events, and which of them are refused.
+#![tactic(auto)]
+
 ghost use Rattle.std.specs.Prelude.{◌≡◌};
 ghost use Rattle.events.specs.Events.{kind_by, side_by, is_other, is_byte, marks, is_tester, is_unit, is_nobody, same_side};
 ghost use Rattle.events.specs.Events.{is_unknown, is_too_late, is_out_of_order, refusal};
@@ -6,7 +8,7 @@ ghost use Rattle.events.specs.Events.{is_unknown, is_too_late, is_out_of_order, 
 use units::Micros;
 
 // What an event is. Other is what is none of the five.
-#[derive(Drop)]
+#[derive(Clone, Copy)]
 pub enum Kind {
     Address,
     WakeUp,
@@ -17,7 +19,7 @@ pub enum Kind {
 }
 
 // Who sent a byte. Nobody is neither.
-#[derive(Drop)]
+#[derive(Clone, Copy)]
 pub enum Side {
     Tester,
     Unit,
@@ -26,7 +28,7 @@ pub enum Side {
 
 // An event. A wake-up falls at its start and rises at its end; a tick and a drop have one time,
 // which stands as both. Only a byte has a side, only a byte and an address have a value.
-#[derive(Drop)]
+#[derive(Clone, Copy)]
 pub struct Event {
     pub start: Micros,
     pub end: Micros,
@@ -39,6 +41,7 @@ pub struct Event {
 const LATEST: u64 = 4_000_000_000_000;
 
 // An event's kind by its letter: A, W, B, T or D.
+#[tactic(auto, unfolding(crate::specs::Events::kind_by))]
 pub fn kind_by(letter: u8) -> Kind
     ensures { result ≡ kind_by letter }
 {
@@ -61,6 +64,7 @@ pub fn kind_by(letter: u8) -> Kind
 }
 
 // A byte's side by its letter: t or e.
+#[tactic(auto, unfolding(crate::specs::Events::side_by))]
 pub fn side_by(letter: u8) -> Side
     ensures { result ≡ side_by letter }
 {
@@ -74,6 +78,7 @@ pub fn side_by(letter: u8) -> Side
 }
 
 // Whether a kind is none of the five.
+#[tactic(auto, unfolding(crate::specs::Events::is_other))]
 fn is_other(kind: Kind) -> bool
     ensures { result ≡ is_other kind }
 {
@@ -88,6 +93,7 @@ fn is_other(kind: Kind) -> bool
 }
 
 // Whether an event is a byte.
+#[tactic(auto, unfolding(crate::specs::Events::is_byte))]
 pub fn is_byte(kind: Kind) -> bool
     ensures { result ≡ is_byte kind }
 {
@@ -102,6 +108,7 @@ pub fn is_byte(kind: Kind) -> bool
 }
 
 // Whether an event's end becomes the link's mark.
+#[tactic(auto, unfolding(crate::specs::Events::marks))]
 pub fn is_marking(kind: Kind) -> bool
     ensures { result ≡ marks kind }
 {
@@ -116,6 +123,7 @@ pub fn is_marking(kind: Kind) -> bool
 }
 
 // Whether a side is the tester's.
+#[tactic(auto, unfolding(crate::specs::Events::is_tester))]
 pub fn is_tester(side: Side) -> bool
     ensures { result ≡ is_tester side }
 {
@@ -127,6 +135,7 @@ pub fn is_tester(side: Side) -> bool
 }
 
 // Whether a side is the unit's.
+#[tactic(auto, unfolding(crate::specs::Events::is_unit))]
 pub fn is_unit(side: Side) -> bool
     ensures { result ≡ is_unit side }
 {
@@ -138,6 +147,7 @@ pub fn is_unit(side: Side) -> bool
 }
 
 // Whether a side is neither.
+#[tactic(auto, unfolding(crate::specs::Events::is_nobody))]
 fn is_nobody(side: Side) -> bool
     ensures { result ≡ is_nobody side }
 {
@@ -149,6 +159,7 @@ fn is_nobody(side: Side) -> bool
 }
 
 // Whether two sides are the same.
+#[tactic(auto, unfolding(crate::specs::Events::same_side))]
 pub fn same_side(a: Side, b: Side) -> bool
     ensures { result ≡ same_side a b }
 {
@@ -160,6 +171,7 @@ pub fn same_side(a: Side, b: Side) -> bool
 }
 
 // Whether an event's kind or side is unknown.
+#[tactic(auto, unfolding(crate::specs::Events::is_unknown))]
 fn unknown(e: Event) -> bool
     ensures { result ≡ is_unknown e }
 {
@@ -169,6 +181,7 @@ fn unknown(e: Event) -> bool
 }
 
 // Whether an event has a time that is too late.
+#[tactic(auto, unfolding(crate::specs::Events::is_too_late))]
 fn too_late(e: Event) -> bool
     ensures { result ≡ is_too_late e }
 {
@@ -176,6 +189,7 @@ fn too_late(e: Event) -> bool
 }
 
 // Whether an event ends before it starts, or starts before the clock.
+#[tactic(auto, unfolding(crate::specs::Events::is_out_of_order))]
 fn out_of_order(clock: Micros, e: Event) -> bool
     ensures { result ≡ is_out_of_order clock e }
 {
@@ -183,6 +197,7 @@ fn out_of_order(clock: Micros, e: Event) -> bool
 }
 
 // The number of an event: its refusal, or 0. `full` is whether no more events are taken.
+#[tactic(auto, unfolding(crate::specs::Events::refusal))]
 pub fn refused(clock: Micros, full: bool, e: Event) -> u8
     ensures { result ≡ refusal clock full e }
 {

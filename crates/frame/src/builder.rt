@@ -7,6 +7,7 @@ use crate::{Built, IN_EXTRA_BYTE, IN_FORMAT_BYTE, Place, Plan, SHORTEST, layout}
 use keys::Form;
 
 // Where a length goes that may stand in either place: in the format byte if it can.
+#[tactic(auto, unfolding(crate::specs::Build::place_for))]
 fn place_for(kb1: u8, n: usize) -> Place
     ensures { result ≡ place_for kb1 n }
 {
@@ -30,6 +31,7 @@ fn only_in(place: Place, announced: bool, n: usize, most: usize) -> Place
 }
 
 // Where a length goes by the choice.
+#[tactic(auto, unfolding(crate::specs::Build::place_chosen))]
 fn place_chosen(choice: u8, kb1: u8, n: usize) -> Place
     ensures { result ≡ place_chosen choice kb1 n }
 {
@@ -53,6 +55,7 @@ fn place_in(p: Plan, n: usize) -> Place
 }
 
 // The number for n bytes of data and a buffer of so many: 5, 6, 7, 8 in this order, or 0.
+#[tactic(auto, unfolding(crate::specs::Build::build_no, crate::specs::Build::size_of))]
 fn build_no(p: Plan, n: usize, room: usize) -> u8
     ensures { result ≡ build_no p n room }
 {
@@ -107,11 +110,12 @@ fn put_data(bytes: &[u8], at: usize, out: &mut [u8])
     requires { at + length bytes.now ≤ length out.old }
     ensures { out.new ≡ put at bytes.now out.old }
 {
-    bytes::copy(bytes, &mut out[at..]);
+    out[at..at + bytes.len()].copy_from_slice(bytes);
 }
 
 // Writes the format byte, the addresses and the extra length byte at the front, and says where the
 // data goes.
+#[tactic(auto, unfolding(crate::specs::Layout::head_size))]
 fn put_head(form: Form, place: Place, p: Plan, n: u8, out: &mut [u8]) -> usize
     requires { Writable form place n (length out.old) }
     ensures { (result ≡ head_size form place) × (out.new ≡ over (head_of form place p.target p.source n) out.old) }
@@ -147,6 +151,7 @@ fn write(form: Form, place: Place, p: Plan, bytes: &[u8], out: &mut [u8]) -> usi
 // Builds a frame at the front of `out`, with the length in the place chosen, and touches nothing
 // after it. A refusal touches nothing at all: 5 the key bytes, 6 the choice or the form, 7 the length
 // or its place, 8 the room, the first that applies.
+#[tactic(auto, unfolding(crate::specs::Build::planned))]
 pub fn build(p: Plan, bytes: &[u8], out: &mut [u8]) -> Built
     ensures { Builds p bytes.now out.old result out.new }
 {

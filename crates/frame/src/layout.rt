@@ -7,6 +7,7 @@ use crate::Place;
 use keys::Form;
 
 // The form that a number names.
+#[tactic(auto, unfolding(crate::specs::Layout::form_numbered))]
 pub(crate) fn form_numbered(n: u8) -> Form
     ensures { result ≡ form_numbered n }
 {
@@ -47,6 +48,7 @@ pub(crate) fn top_bits(form: Form) -> u8
 }
 
 // The form that a format byte names.
+#[tactic(auto, unfolding(crate::specs::Layout::format_form))]
 pub fn format_form(f: u8) -> Form
     ensures { result ≡ format_form f }
 {
@@ -64,6 +66,7 @@ pub fn format_form(f: u8) -> Form
 }
 
 // The low six bits of the format byte for a length.
+#[tactic(auto, unfolding(crate::specs::Layout::low_bits))]
 pub(crate) fn low_bits(place: Place, n: u8) -> u8
     ensures { result ≡ low_bits place n }
 {
@@ -75,6 +78,7 @@ pub(crate) fn low_bits(place: Place, n: u8) -> u8
 }
 
 // How many address bytes a form carries.
+#[tactic(auto, unfolding(crate::specs::Layout::address_count))]
 pub(crate) fn address_count(form: Form) -> u8
     ensures { result ≡ address_count form }
 {
@@ -87,6 +91,7 @@ pub(crate) fn address_count(form: Form) -> u8
 }
 
 // How many extra length bytes there are.
+#[tactic(auto, unfolding(crate::specs::Layout::extra_count))]
 pub(crate) fn extra_count(place: Place) -> u8
     ensures { result ≡ extra_count place }
 {
@@ -98,6 +103,7 @@ pub(crate) fn extra_count(place: Place) -> u8
 }
 
 // How many bytes stand before the data.
+#[tactic(auto, unfolding(crate::specs::Layout::head_size))]
 pub(crate) fn head_size(form: Form, place: Place) -> u8
     ensures { result ≡ head_size form place }
 {
@@ -105,6 +111,7 @@ pub(crate) fn head_size(form: Form, place: Place) -> u8
 }
 
 // An address as a frame of this form carries it.
+#[tactic(auto, unfolding(crate::specs::Layout::carried))]
 pub(crate) fn carried_by(form: Form, address: u8) -> u8
     ensures { result ≡ carried form address }
 {
@@ -117,6 +124,7 @@ pub(crate) fn carried_by(form: Form, address: u8) -> u8
 }
 
 // Whether a length has no place.
+#[tactic(auto, unfolding(crate::specs::Layout::is_nowhere))]
 pub(crate) fn is_nowhere(place: Place) -> bool
     ensures { result ≡ is_nowhere place }
 {
@@ -128,6 +136,7 @@ pub(crate) fn is_nowhere(place: Place) -> bool
 }
 
 // The sum of all bytes, modulo 256.
+#[tactic(auto, unfolding(crate::specs::Layout::total, crate::specs::Layout::checksum_of))]
 pub(crate) fn checksum(s: &[u8]) -> u8
     ensures { result ≡ checksum_of s.now }
 {

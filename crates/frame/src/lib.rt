@@ -1,4 +1,6 @@
 // Frames: built into a lent buffer, and read from a slice that must be exactly one frame.
+#![tactic(auto)]
+
 mod builder;
 mod layout;
 mod reader;
@@ -8,7 +10,7 @@ pub use layout::format_form;
 pub use reader::{contents, read};
 
 // Where a length stands: in the format byte, in an extra byte after the addresses, or nowhere.
-#[derive(Drop)]
+#[derive(Clone, Copy)]
 enum Place {
     Format,
     Extra,
@@ -25,7 +27,7 @@ pub const IN_EXTRA_BYTE: u8 = 2;
 
 // What to build: where the length goes (one of these three), the key bytes, the form (0 none, 1
 // physical, 2 functional) and the addresses.
-#[derive(Drop)]
+#[derive(Clone, Copy)]
 pub struct Plan {
     pub choice: u8,
     pub kb1: u8,
@@ -36,7 +38,7 @@ pub struct Plan {
 }
 
 // The answer of building: the number, and the frame's length, 0 beside a refusal.
-#[derive(Drop)]
+#[derive(Clone, Copy)]
 pub struct Built {
     pub no: u8,
     pub len: usize,
@@ -44,7 +46,7 @@ pub struct Built {
 
 // What the front of a slice says of a frame that starts there: the number, the form, where the
 // data starts and how long it is.
-#[derive(Drop)]
+#[derive(Clone, Copy)]
 struct Laid {
     no: u8,
     form: keys::Form,
@@ -54,7 +56,7 @@ struct Laid {
 
 // The answer of reading: the number, the form and the addresses, and where in the slice the data
 // starts and how long it is. All 0 beside a refusal.
-#[derive(Drop)]
+#[derive(Clone, Copy)]
 pub struct Reading {
     pub no: u8,
     pub form: u8,

@@ -13,6 +13,7 @@ fn has_extra(f: u8) -> bool
 }
 
 // Where the length of a frame with this format byte stands.
+#[tactic(auto, unfolding(crate::specs::Read::place_read))]
 fn place_read(kb1: u8, f: u8) -> Place
     ensures { result ≡ place_read kb1 f }
 {
@@ -40,6 +41,7 @@ fn byte_at(s: &[u8], i: usize) -> u8
 
 // How many data bytes there are: the low six bits of the format byte, or where these are 0 the byte
 // at an index of the slice.
+#[tactic(auto, unfolding(crate::specs::Read::length_read))]
 fn length_read(s: &[u8], f: u8, at: usize) -> u8
     ensures { result ≡ length_read s.now f at }
 {
@@ -61,6 +63,7 @@ fn not_laid(no: u8) -> Laid
 }
 
 // What the front of a slice says of a frame that starts there.
+#[tactic(auto, unfolding(crate::specs::Read::laid_of))]
 fn lay_out(kb1: u8, s: &[u8]) -> Laid
     ensures { result ≡ laid_of kb1 s.now }
 {
@@ -112,6 +115,7 @@ fn end_of(e: usize) -> usize
 }
 
 // Judges whether a slice is exactly the frame that its front lays out.
+#[tactic(auto, unfolding(crate::specs::Read::judged))]
 fn judge(s: &[u8], l: Laid) -> Reading
     ensures { result ≡ judged s.now l }
 {
@@ -141,6 +145,7 @@ fn judge(s: &[u8], l: Laid) -> Reading
 
 // Reads a slice that must be exactly one frame: 5 the key bytes, 7 an empty slice, 6 the form, 7
 // the length, 9 the checksum, the first that applies.
+#[tactic(auto, unfolding(crate::specs::Read::read_of))]
 pub fn read(kb1: u8, kb2: u8, s: &[u8]) -> Reading
     ensures { result ≡ read_of kb1 kb2 s.now }
 {
@@ -152,6 +157,7 @@ pub fn read(kb1: u8, kb2: u8, s: &[u8]) -> Reading
 }
 
 // The data of a frame, as a part of the slice; an empty part of what is no frame.
+#[tactic(auto, unfolding(crate::specs::Read::data_of))]
 pub fn contents(kb1: u8, kb2: u8, s: &[u8]) -> &[u8]
     ensures { DataIn kb1 kb2 s.entry result }
 {

@@ -1,11 +1,13 @@
 // Key bytes: which pairs are good, what KB1 announces, and which edition a pair chooses.
+#![tactic(auto)]
+
 ghost use Rattle.std.specs.Prelude.{◌≡◌};
 ghost use Rattle.keys.specs.Keys.{length_in_format, extra_length, no_addresses, with_addresses, is_extended, good_pair, takes_form};
 ghost use Rattle.keys.specs.Editions.{edition_of, is_car, is_quick, is_slow_pair};
 
 // The form of a frame. Foreign is what is none of ours: mode 01 (CARB) of a format byte, or a form
 // number above 2.
-#[derive(Drop)]
+#[derive(Clone, Copy)]
 pub enum Form {
     Plain,
     Physical,
@@ -14,14 +16,14 @@ pub enum Form {
 }
 
 // A pair of key bytes, as a unit announces it.
-#[derive(Drop)]
+#[derive(Clone, Copy)]
 pub struct Pair {
     pub kb1: u8,
     pub kb2: u8,
 }
 
 // The edition that a unit's key bytes choose: ISO 14230, or ISO 9141-2 with 08 08 or with 94 94.
-#[derive(Drop)]
+#[derive(Clone, Copy)]
 pub enum Edition {
     Iso14230,
     Car08,
@@ -32,6 +34,7 @@ pub enum Edition {
 const CAR_ADDRESS: u8 = 0x33;
 
 // Whether a pair of key bytes is good.
+#[tactic(auto, unfolding(crate::specs::Keys::good_pair, crate::specs::Keys::length_in_format, crate::specs::Keys::extra_length, crate::specs::Keys::no_addresses, crate::specs::Keys::with_addresses))]
 pub fn good_pair(kb1: u8, kb2: u8) -> bool
     ensures { result ≡ good_pair kb1 kb2 }
 {
@@ -53,6 +56,7 @@ pub fn good_pair(kb1: u8, kb2: u8) -> bool
 }
 
 // Whether KB1 announces a length in the format byte.
+#[tactic(auto, unfolding(crate::specs::Keys::length_in_format))]
 pub fn length_in_format(kb1: u8) -> bool
     ensures { result ≡ length_in_format kb1 }
 {
@@ -60,6 +64,7 @@ pub fn length_in_format(kb1: u8) -> bool
 }
 
 // Whether KB1 announces an extra length byte.
+#[tactic(auto, unfolding(crate::specs::Keys::extra_length))]
 pub fn extra_length(kb1: u8) -> bool
     ensures { result ≡ extra_length kb1 }
 {
@@ -67,6 +72,7 @@ pub fn extra_length(kb1: u8) -> bool
 }
 
 // Whether KB1 announces frames with no addresses.
+#[tactic(auto, unfolding(crate::specs::Keys::no_addresses))]
 pub fn no_addresses(kb1: u8) -> bool
     ensures { result ≡ no_addresses kb1 }
 {
@@ -74,6 +80,7 @@ pub fn no_addresses(kb1: u8) -> bool
 }
 
 // Whether KB1 announces frames with target and source.
+#[tactic(auto, unfolding(crate::specs::Keys::with_addresses))]
 pub fn with_addresses(kb1: u8) -> bool
     ensures { result ≡ with_addresses kb1 }
 {
@@ -81,6 +88,7 @@ pub fn with_addresses(kb1: u8) -> bool
 }
 
 // Whether KB1 announces extended timing.
+#[tactic(auto, unfolding(crate::specs::Keys::is_extended))]
 pub fn is_extended(kb1: u8) -> bool
     ensures { result ≡ is_extended kb1 }
 {
@@ -88,6 +96,7 @@ pub fn is_extended(kb1: u8) -> bool
 }
 
 // Whether KB1 takes frames of a form.
+#[tactic(auto, unfolding(crate::specs::Keys::takes_form))]
 pub fn takes_form(kb1: u8, form: Form) -> bool
     ensures { result ≡ takes_form kb1 form }
 {
@@ -104,6 +113,7 @@ pub fn takes_form(kb1: u8, form: Form) -> bool
 }
 
 // The edition that a pair chooses.
+#[tactic(auto, unfolding(crate::specs::Editions::edition_of))]
 pub fn edition_of(pair: Pair) -> Edition
     ensures { result ≡ edition_of pair }
 {
@@ -117,6 +127,7 @@ pub fn edition_of(pair: Pair) -> Edition
 }
 
 // Whether a pair is a car's.
+#[tactic(auto, unfolding(crate::specs::Editions::is_car))]
 pub fn is_car(pair: Pair) -> bool
     ensures { result ≡ is_car (edition_of pair) }
 {
@@ -129,6 +140,7 @@ pub fn is_car(pair: Pair) -> bool
 }
 
 // Whether a unit with this pair may answer at once.
+#[tactic(auto, unfolding(crate::specs::Editions::is_quick))]
 pub fn is_quick(pair: Pair) -> bool
     ensures { result ≡ is_quick (edition_of pair) }
 {
@@ -141,6 +153,7 @@ pub fn is_quick(pair: Pair) -> bool
 }
 
 // Whether a pair is right in a slow start from an address: a good one, or a car's from its address.
+#[tactic(auto, unfolding(crate::specs::Editions::is_slow_pair))]
 pub fn is_slow_pair(address: u8, pair: Pair) -> bool
     ensures { result ≡ is_slow_pair address pair }
 {

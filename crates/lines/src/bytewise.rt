@@ -15,6 +15,7 @@ const SPACE: u8 = 0x20;
 const MOST_DIGITS: u32 = 13;
 
 // A number with one decimal digit more: the last 13 of them.
+#[tactic(auto, unfolding(crate::specs::Lines::digit_on))]
 fn digit_on(n: u64, b: u8) -> u64
     ensures { result ≡ digit_on n b }
 {
@@ -51,6 +52,7 @@ fn give_up() -> Reading
 }
 
 // The event's letter was read.
+#[tactic(auto, unfolding(crate::specs::Lines::lettered))]
 fn read_letter(kind: Kind) -> Reading
     ensures { result ≡ lettered kind }
 {
@@ -97,6 +99,7 @@ fn with_value(r: Reading, side: Side, value: u8, place: Place) -> Reading
     }
 }
 
+#[tactic(auto, unfolding(crate::specs::Lines::spaced))]
 fn read_space(r: Reading, b: u8, place: Place) -> Reading
     ensures { result ≡ spaced r b place }
 {
@@ -106,6 +109,7 @@ fn read_space(r: Reading, b: u8, place: Place) -> Reading
     give_up()
 }
 
+#[tactic(auto, unfolding(crate::specs::Lines::sided))]
 fn read_side(r: Reading, side: Side) -> Reading
     ensures { result ≡ sided r side }
 {
@@ -117,6 +121,7 @@ fn read_side(r: Reading, side: Side) -> Reading
 }
 
 // The first of two hex digits.
+#[tactic(auto, unfolding(crate::specs::Lines::high_read))]
 fn read_high(r: Reading, b: u8) -> Reading
     ensures { result ≡ high_read r b }
 {
@@ -129,6 +134,7 @@ fn read_high(r: Reading, b: u8) -> Reading
 }
 
 // The second.
+#[tactic(auto, unfolding(crate::specs::Lines::low_read))]
 fn read_low(r: Reading, b: u8) -> Reading
     ensures { result ≡ low_read r b }
 {
@@ -141,6 +147,7 @@ fn read_low(r: Reading, b: u8) -> Reading
 }
 
 // Whether a byte is one more digit of a time.
+#[tactic(auto, unfolding(crate::specs::Lines::takes_digit))]
 fn takes_digit(r: Reading, b: u8) -> bool
     ensures { result ≡ takes_digit r b }
 {
@@ -148,6 +155,7 @@ fn takes_digit(r: Reading, b: u8) -> bool
 }
 
 // A byte of the only time.
+#[tactic(auto, unfolding(crate::specs::Lines::time_read))]
 fn read_time(r: Reading, b: u8) -> Reading
     ensures { result ≡ time_read r b }
 {
@@ -159,6 +167,7 @@ fn read_time(r: Reading, b: u8) -> Reading
 }
 
 // A byte of the first of two times, or the space after it.
+#[tactic(auto, unfolding(crate::specs::Lines::start_read))]
 fn read_start(r: Reading, b: u8) -> Reading
     ensures { result ≡ start_read r b }
 {
@@ -172,6 +181,7 @@ fn read_start(r: Reading, b: u8) -> Reading
 }
 
 // A byte of the second.
+#[tactic(auto, unfolding(crate::specs::Lines::end_read))]
 fn read_end(r: Reading, b: u8) -> Reading
     ensures { result ≡ end_read r b }
 {
@@ -182,6 +192,7 @@ fn read_end(r: Reading, b: u8) -> Reading
 }
 
 // The next byte of a line.
+#[tactic(auto, unfolding(crate::specs::Lines::read_byte))]
 pub fn read_byte(r: Reading, b: u8) -> Reading
     ensures { result ≡ read_byte r b }
 {
@@ -203,6 +214,7 @@ pub fn read_byte(r: Reading, b: u8) -> Reading
 }
 
 // Whether the event's letter is next.
+#[tactic(auto, unfolding(crate::specs::Lines::is_letter))]
 pub(crate) fn is_letter(place: Place) -> bool
     ensures { result ≡ is_letter place }
 {
@@ -223,6 +235,7 @@ pub(crate) fn is_letter(place: Place) -> bool
 }
 
 // Whether nothing of a line was read.
+#[tactic(auto, unfolding(crate::specs::Lines::is_empty))]
 pub fn is_empty(r: Reading) -> bool
     ensures { result ≡ is_empty r }
 {
@@ -231,6 +244,7 @@ pub fn is_empty(r: Reading) -> bool
 }
 
 // Whether a line may end with the digits at hand.
+#[tactic(auto, unfolding(crate::specs::Lines::is_last))]
 fn is_last(place: Place) -> bool
     ensures { result ≡ is_last place }
 {
@@ -251,6 +265,7 @@ fn is_last(place: Place) -> bool
 }
 
 // Whether all of a line was read.
+#[tactic(auto, unfolding(crate::specs::Lines::is_whole))]
 fn is_whole(r: Reading) -> bool
     ensures { result ≡ is_whole r }
 {
@@ -272,6 +287,7 @@ pub(crate) fn no_event() -> Event
 }
 
 // A line's event, where the line ends.
+#[tactic(auto, unfolding(crate::specs::Lines::event_of))]
 pub fn event_of(r: Reading) -> Event
     ensures { result ≡ event_of r }
 {

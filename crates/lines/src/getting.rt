@@ -10,6 +10,7 @@ use crate::{Got, Reading, Row};
 const LINE_FEED: u8 = 10;
 
 // A line has ended in front of a place.
+#[tactic(auto, unfolding(crate::specs::Getting::ended))]
 fn end(r: Reading, at: usize) -> Got
     ensures { result ≡ ended r at }
 {
@@ -22,6 +23,7 @@ fn end(r: Reading, at: usize) -> Got
 }
 
 // The part has ended in front of a place.
+#[tactic(auto, unfolding(crate::specs::Getting::cut_off))]
 fn cut_off(r: Reading, at: usize) -> Got
     ensures { result ≡ cut_off r at }
 {
@@ -52,6 +54,7 @@ pub fn get_line(r: Reading, s: &[u8], at: usize) -> Got
 
 // What the line of a byte that was read at once gives. (A row whose place is 0 is none: then this
 // says nothing of use.)
+#[tactic(auto, unfolding(crate::specs::Quick::row_got))]
 pub fn got_row(q: Row) -> Got
     ensures { result ≡ row_got q }
 {

@@ -1,4 +1,6 @@
 // A line of a listing's input, read into an event, however the input is cut.
+#![tactic(auto)]
+
 mod bytewise;
 mod getting;
 mod quick;
@@ -10,7 +12,7 @@ pub use quick::{byte_line, no_row};
 
 // What the next byte of a line is to be. A tick and a drop have one time, the others two. Nowhere:
 // the line can't be read, whatever follows.
-#[derive(Drop)]
+#[derive(Clone, Copy)]
 pub enum Place {
     Letter,
     BeforeSide,
@@ -28,7 +30,7 @@ pub enum Place {
 
 // A line as far as it was read: its times, how many digits the one at hand has, its value, kind and
 // side, and what is next.
-#[derive(Drop)]
+#[derive(Clone, Copy)]
 pub struct Reading {
     pub start: u64,
     pub end: u64,
@@ -41,7 +43,7 @@ pub struct Reading {
 
 // What a part of the input has from a place on: the event of a line, if the line ends in the part;
 // what is read of the line after; the place after the bytes that were read.
-#[derive(Drop)]
+#[derive(Clone, Copy)]
 pub struct Got {
     pub event: Event,
     pub reading: Reading,
@@ -50,7 +52,7 @@ pub struct Got {
 }
 
 // A byte's line that was read at once, and the place after it: 0 where there is none.
-#[derive(Drop)]
+#[derive(Clone, Copy)]
 pub struct Row {
     pub event: Event,
     pub to: usize,

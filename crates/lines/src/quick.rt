@@ -9,7 +9,7 @@ use events::{Event, Kind, Side};
 use units::Micros;
 
 // A number, and the place after its digits.
-#[derive(Drop)]
+#[derive(Clone, Copy)]
 struct Span {
     value: u64,
     to: usize,
@@ -52,6 +52,7 @@ fn digits(s: &[u8], at: usize) -> Span
 }
 
 // The second time, and the line feed after it.
+#[tactic(auto, unfolding(crate::specs::Quick::second_at))]
 fn second(s: &[u8], at: usize, start: u64, side: Side, value: u8) -> Row
     requires { at + 14 ≤ length s.now }
     ensures { result ≡ second_at s.now at start side value }
@@ -77,6 +78,7 @@ fn second(s: &[u8], at: usize, start: u64, side: Side, value: u8) -> Row
 }
 
 // Two times.
+#[tactic(auto, unfolding(crate::specs::Quick::times_at))]
 fn times(s: &[u8], at: usize, side: Side, value: u8) -> Row
     requires { at + 28 ≤ length s.now }
     ensures { result ≡ times_at s.now at side value }
@@ -93,6 +95,7 @@ fn times(s: &[u8], at: usize, side: Side, value: u8) -> Row
 }
 
 // Whether the letter B and the spaces stand where they must.
+#[tactic(auto, unfolding(crate::specs::Quick::has_words))]
 fn has_words(s: &[u8], at: usize) -> bool
     requires { at + 7 ≤ length s.now }
     ensures { result ≡ has_words s.now at }
@@ -101,6 +104,7 @@ fn has_words(s: &[u8], at: usize) -> bool
 }
 
 // The line that stands at a place.
+#[tactic(auto, unfolding(crate::specs::Quick::row_at))]
 fn row_at(s: &[u8], at: usize) -> Row
     requires { at + 36 ≤ length s.now }
     ensures { result ≡ row_at s.now at }
@@ -125,6 +129,7 @@ fn row_at(s: &[u8], at: usize) -> Row
 
 // The line that stands at a place of a part, if it is a byte's and the longest such line would lie
 // in the part, and one byte more.
+#[tactic(auto, unfolding(crate::specs::Quick::row_of))]
 pub fn byte_line(s: &[u8], at: usize) -> Row
     ensures { result ≡ row_of s.now at }
 {

@@ -1,4 +1,6 @@
 // The link: events in, reports out, and the counts brought up to date.
+#![tactic(auto)]
+
 mod quick;
 mod running;
 mod stepping;
@@ -11,7 +13,7 @@ use units::Micros;
 
 // A link: its clock and mark, the events taken, the bytes heard, those that reports have named, and
 // what it is at.
-#[derive(Drop)]
+#[derive(Clone, Copy)]
 pub struct Link {
     pub clock: Micros,
     pub mark: Micros,
@@ -22,7 +24,7 @@ pub struct Link {
 }
 
 // What an event is answered with: the link after it, its reports, its number.
-#[derive(Drop)]
+#[derive(Clone, Copy)]
 pub struct Answer {
     pub link: Link,
     pub reports: Reports,
@@ -30,7 +32,7 @@ pub struct Answer {
 }
 
 // A step: the answer, and the counts after it.
-#[derive(Drop)]
+#[derive(Clone, Copy)]
 pub struct Stepped {
     pub answer: Answer,
     pub counts: Counts,

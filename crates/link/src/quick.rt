@@ -12,6 +12,7 @@ use timing::Limit;
 use units::Micros;
 
 // How long a connected link may be quiet.
+#[tactic(auto, unfolding(crate::specs::Quick::limit_of))]
 fn limit_of(p: Phase) -> Limit
     ensures { result ≡ limit_of p }
 {
@@ -24,6 +25,7 @@ fn limit_of(p: Phase) -> Limit
 }
 
 // Whether no time runs out.
+#[tactic(auto, unfolding(crate::specs::Quick::is_calm))]
 pub(crate) fn is_calm(p: Phase, mark: Micros, start: Micros) -> bool
     ensures { result ≡ is_calm p mark start }
 {
@@ -51,6 +53,7 @@ pub(crate) fn is_calm(p: Phase, mark: Micros, start: Micros) -> bool
 }
 
 // Whether an event is a byte that ends what is held.
+#[tactic(auto, unfolding(crate::specs::Quick::cuts_by))]
 pub(crate) fn cuts(p: Phase, e: Event) -> bool
     ensures { result ≡ cuts_by p e }
 {
@@ -60,6 +63,7 @@ pub(crate) fn cuts(p: Phase, e: Event) -> bool
 }
 
 // A byte that makes no report.
+#[tactic(auto, unfolding(crate::specs::Quick::went_on))]
 pub(crate) fn go_on(l: Link, e: Event, p: Phase) -> Answer
     ensures { result ≡ went_on l e p }
 {
@@ -79,6 +83,7 @@ pub(crate) fn go_on(l: Link, e: Event, p: Phase) -> Answer
 }
 
 // Whether a message's next byte may have any value.
+#[tactic(auto, unfolding(crate::specs::Quick::is_inside))]
 fn is_inside(part: Part) -> bool
     ensures { result ≡ is_inside part }
 {
@@ -93,6 +98,7 @@ fn is_inside(part: Part) -> bool
 }
 
 // Whether a byte goes on with the message held.
+#[tactic(auto, unfolding(crate::specs::Quick::goes_on))]
 pub(crate) fn goes_on(l: Link, e: Event) -> bool
     ensures { result ≡ goes_on l e }
 {
@@ -111,6 +117,7 @@ pub(crate) fn goes_on(l: Link, e: Event) -> bool
 }
 
 // Whether a byte is the first of a message, on a 14230 link.
+#[tactic(auto, unfolding(crate::specs::Quick::is_first_byte))]
 pub(crate) fn is_first_byte(l: Link, e: Event) -> bool
     ensures { result ≡ is_first_byte l e }
 {

@@ -11,6 +11,7 @@ use reports::Counts;
 
 // Whether an event is taken and goes on with the message held: no report, and no more than the
 // message grows.
+#[tactic(auto, unfolding(crate::specs::Running::runs_on))]
 pub fn runs_on(l: Link, c: Counts, e: Event) -> bool
     ensures { result ≡ runs_on l c e }
 {
@@ -21,6 +22,7 @@ pub fn runs_on(l: Link, c: Counts, e: Event) -> bool
 }
 
 // The link after such an event.
+#[tactic(auto, unfolding(crate::specs::Running::ran_on))]
 pub fn run_on(l: Link, e: Event) -> Link
     ensures { result ≡ ran_on l e }
 {

@@ -11,6 +11,7 @@ use reports::{Counts, Run, make, no_reports};
 use units::Micros;
 
 // A fresh link.
+#[tactic(auto, unfolding(crate::specs::Handling::fresh_link))]
 pub fn fresh() -> Link
     ensures { result ≡ fresh_link }
 {
@@ -25,6 +26,7 @@ pub fn fresh() -> Link
 }
 
 // Time passes up to an event's start.
+#[tactic(auto, unfolding(crate::specs::Handling::passed))]
 fn pass(r: Run, mark: Micros, start: Micros) -> Run
     ensures { result ≡ passed r mark start }
 {
@@ -40,6 +42,7 @@ fn pass(r: Run, mark: Micros, start: Micros) -> Run
 }
 
 // A byte ends what is held, or does not.
+#[tactic(auto, unfolding(crate::specs::Quick::cut_by))]
 fn cut_in(r: Run, e: Event) -> Run
     ensures { result ≡ cut_by r e }
 {
@@ -51,6 +54,7 @@ fn cut_in(r: Run, e: Event) -> Run
 }
 
 // What comes before an event acts: time passes, and a byte may end what is held.
+#[tactic(auto, unfolding(crate::specs::Quick::approached))]
 fn approach(r: Run, e: Event, mark: Micros) -> Run
     ensures { result ≡ approached r e mark }
 {
@@ -62,6 +66,7 @@ fn approach(r: Run, e: Event, mark: Micros) -> Run
 }
 
 // What is open is closed, and a connected link goes down.
+#[tactic(auto, unfolding(crate::specs::Handling::shut))]
 fn shut_all(r: Run, reason: u8) -> Run
     ensures { result ≡ shut r reason }
 {
@@ -122,6 +127,7 @@ fn act(r: Run, e: Event, mark: Micros) -> Run
 }
 
 // A step begins.
+#[tactic(auto, unfolding(crate::specs::Handling::begun))]
 fn enter(l: Link, e: Event) -> Run
     ensures { result ≡ begun l e }
 {
@@ -144,6 +150,7 @@ fn handle(l: Link, e: Event) -> Run
 }
 
 // The mark after an event.
+#[tactic(auto, unfolding(crate::specs::Handling::mark_after))]
 fn mark_after(l: Link, e: Event) -> Micros
     ensures { result ≡ mark_after l e }
 {
@@ -155,6 +162,7 @@ fn mark_after(l: Link, e: Event) -> Micros
 }
 
 // The link after an event.
+#[tactic(auto, unfolding(crate::specs::Handling::link_after))]
 fn finish(l: Link, e: Event, r: Run) -> Link
     ensures { result ≡ link_after l e r }
 {
@@ -171,6 +179,7 @@ fn finish(l: Link, e: Event, r: Run) -> Link
 }
 
 // The number of an event.
+#[tactic(auto, unfolding(crate::specs::Stepping::number_of))]
 pub(crate) fn number(l: Link, c: Counts, e: Event) -> u8
     ensures { result ≡ number_of l c e }
 {
@@ -178,6 +187,7 @@ pub(crate) fn number(l: Link, c: Counts, e: Event) -> u8
 }
 
 // A refused event.
+#[tactic(auto, unfolding(crate::specs::Stepping::refused_by))]
 fn refuse(l: Link, no: u8) -> Answer
     ensures { result ≡ refused_by l no }
 {
@@ -189,6 +199,7 @@ fn refuse(l: Link, no: u8) -> Answer
 }
 
 // An event that is taken.
+#[tactic(auto, unfolding(crate::specs::Stepping::taken_by))]
 fn take(l: Link, e: Event) -> Answer
     ensures { result ≡ taken_by l e }
 {
@@ -202,6 +213,7 @@ fn take(l: Link, e: Event) -> Answer
 }
 
 // What an event is answered with.
+#[tactic(auto, unfolding(crate::specs::Stepping::answer_of))]
 pub fn respond(l: Link, c: Counts, e: Event) -> Answer
     ensures { result ≡ answer_of l c e }
 {
@@ -226,6 +238,7 @@ pub fn respond(l: Link, c: Counts, e: Event) -> Answer
 }
 
 // The counts after an event, by its answer.
+#[tactic(auto, unfolding(crate::specs::Stepping::counts_after))]
 pub fn counted(c: Counts, a: Answer, e: Event) -> Counts
     ensures { result ≡ counts_after c a e }
 {
@@ -238,6 +251,7 @@ pub fn counted(c: Counts, a: Answer, e: Event) -> Counts
 }
 
 // A step: the answer to an event, and the counts brought up to date.
+#[tactic(auto, unfolding(crate::specs::Stepping::step_of))]
 pub fn step(l: Link, c: Counts, e: Event) -> Stepped
     ensures { result ≡ step_of l c e }
 {

@@ -1,5 +1,7 @@
 // The listing program: events from standard input, or from the file that its one argument names; the
 // listing to standard output. It reads 64 KiB at a time and keeps nothing but the lister.
+#![tactic(auto)]
+
 ghost use Rattle.std.specs.Prelude.{◌≤◌, length};
 ghost use Rattle.listing.specs.Parts.{answer_most, ending_most};
 ghost use Rattle.list_events.specs.Sending.{Listed};
@@ -8,7 +10,7 @@ use libc::{STDERR_FILENO, STDIN_FILENO, STDOUT_FILENO};
 use listing::Lister;
 
 // The lister after so many bytes of a part, and whether all that was written went out.
-#[derive(Drop)]
+#[derive(Clone, Copy)]
 struct Sent {
     lister: Lister,
     at: usize,

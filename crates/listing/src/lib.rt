@@ -1,4 +1,6 @@
 // A listing: lines of events in, lines of reports out, part by part.
+#![tactic(auto)]
+
 ghost use Rattle.std.specs.Prelude.{◌≡◌, ◌+◌, ◌≤◌, length, drop};
 ghost use Rattle.words.specs.Writing.{Puts, Writes};
 ghost use Rattle.lines.specs.Getting.{got_of};
@@ -12,7 +14,7 @@ use link::{Answer, Link};
 use reports::Counts;
 
 // Who lists: the link, its counts, and the line of input that has not ended.
-#[derive(Drop)]
+#[derive(Clone, Copy)]
 pub struct Lister {
     pub link: Link,
     pub counts: Counts,
@@ -21,7 +23,7 @@ pub struct Lister {
 
 // What became of a part of the input: the lister after it, how many bytes of the part were read, and
 // how many were written.
-#[derive(Drop)]
+#[derive(Clone, Copy)]
 pub struct Part {
     pub lister: Lister,
     pub at: usize,
@@ -30,7 +32,7 @@ pub struct Part {
 
 // How far bytes went on with the message held: link and counts after them, the place of the next
 // line, and that line if it was read at once.
-#[derive(Drop)]
+#[derive(Clone, Copy)]
 struct Stretch {
     link: Link,
     counts: Counts,
@@ -148,6 +150,7 @@ fn stretch_from(l: Lister, s: &[u8], from: usize) -> Stretch
 }
 
 // The reading after so many lines: the one in front of them if there are none.
+#[tactic(auto, unfolding(crate::specs::Turns::reading_after))]
 fn reading_after(r: Reading, from: usize, at: usize) -> Reading
     ensures { result ≡ reading_after r from at }
 {
@@ -243,6 +246,7 @@ pub fn list_part(l: Lister, s: &[u8], out: &mut [u8]) -> Part
 }
 
 // The bytes that no report has named.
+#[tactic(auto, unfolding(crate::specs::Listing::held_of))]
 fn held(l: Link) -> u64
     ensures { result ≡ held_of l }
 {

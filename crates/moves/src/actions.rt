@@ -17,6 +17,7 @@ const LEAST_LOW: u64 = 24_000;
 const GREATEST_LOW: u64 = 26_000;
 
 // Whether the line was idle long enough before a start.
+#[tactic(auto, unfolding(crate::specs::Moves::is_idle))]
 fn is_idle(idle: Micros, mark: Micros, start: Micros) -> bool
     ensures { result ≡ is_idle idle mark start }
 {
@@ -25,6 +26,7 @@ fn is_idle(idle: Micros, mark: Micros, start: Micros) -> bool
 }
 
 // An address, on a link that is down with this idle time.
+#[tactic(auto, unfolding(crate::specs::Moves::starting_slow))]
 pub fn starting_slow(idle: Micros, address: u8, mark: Micros, start: Micros) -> Move
     ensures { result ≡ starting_slow idle address mark start }
 {
@@ -35,6 +37,7 @@ pub fn starting_slow(idle: Micros, address: u8, mark: Micros, start: Micros) -> 
 }
 
 // Whether a wake-up's low is neither short nor long.
+#[tactic(auto, unfolding(crate::specs::Moves::is_good_low))]
 fn is_good_low(fall: Micros, rise: Micros) -> bool
     ensures { result ≡ is_good_low fall rise }
 {
@@ -45,6 +48,7 @@ fn is_good_low(fall: Micros, rise: Micros) -> bool
 }
 
 // A wake-up, on a link that is down with this idle time.
+#[tactic(auto, unfolding(crate::specs::Moves::starting_fast))]
 pub fn starting_fast(idle: Micros, mark: Micros, fall: Micros, rise: Micros) -> Move
     ensures { result ≡ starting_fast idle mark fall rise }
 {
@@ -59,6 +63,7 @@ pub fn starting_fast(idle: Micros, mark: Micros, fall: Micros, rise: Micros) -> 
 }
 
 // A byte of an initialization.
+#[tactic(auto, unfolding(crate::specs::Moves::start_byte))]
 fn start_byte(p: Phase, side: Side, v: u8, gap: Micros) -> Move
     ensures { result ≡ start_byte p side v gap }
 {
@@ -75,6 +80,7 @@ fn start_byte(p: Phase, side: Side, v: u8, gap: Micros) -> Move
 }
 
 // The reason against the first byte of a message.
+#[tactic(auto, unfolding(crate::specs::Moves::reason_at_first))]
 fn reason_at_first(p: Phase, side: Side, v: u8, gap: Micros) -> u8
     ensures { result ≡ reason_at_first p side v gap }
 {
@@ -85,6 +91,7 @@ fn reason_at_first(p: Phase, side: Side, v: u8, gap: Micros) -> u8
 }
 
 // The first byte of a message.
+#[tactic(auto, unfolding(crate::specs::Moves::first_byte))]
 fn first_byte(p: Phase, side: Side, v: u8, gap: Micros) -> Phase
     ensures { result ≡ first_byte p side v gap }
 {
@@ -97,6 +104,7 @@ fn first_byte(p: Phase, side: Side, v: u8, gap: Micros) -> Phase
 }
 
 // The same on a 14230 link.
+#[tactic(auto, unfolding(crate::specs::Moves::first_frame_byte))]
 pub fn first_frame_byte(p: Phase, side: Side, v: u8, gap: Micros) -> Phase
     ensures { result ≡ first_frame_byte p side v gap }
 {
@@ -111,6 +119,7 @@ pub fn first_frame_byte(p: Phase, side: Side, v: u8, gap: Micros) -> Phase
 }
 
 // A later byte of a message.
+#[tactic(auto, unfolding(crate::specs::Moves::later_byte))]
 fn later_byte(p: Phase, side: Side, v: u8) -> Move
     ensures { result ≡ later_byte p side v }
 {
@@ -127,6 +136,7 @@ fn later_byte(p: Phase, side: Side, v: u8) -> Move
 }
 
 // A byte.
+#[tactic(auto, unfolding(crate::specs::Moves::after_byte))]
 pub fn after_byte(p: Phase, side: Side, v: u8, mark: Micros, start: Micros) -> Move
     ensures { result ≡ after_byte p side v mark start }
 {
@@ -141,6 +151,7 @@ pub fn after_byte(p: Phase, side: Side, v: u8, mark: Micros, start: Micros) -> M
 }
 
 // The unit has answered a stop.
+#[tactic(auto, unfolding(crate::specs::Moves::after_stop))]
 pub fn after_stop(p: Phase) -> Move
     ensures { result ≡ after_stop p }
 {

@@ -1,4 +1,6 @@
 // What passing time, a closing event, a start and a byte do to a link.
+#![tactic(auto)]
+
 mod actions;
 mod passing;
 
@@ -10,7 +12,7 @@ pub use passing::{
 use phases::Phase;
 
 // A rule's outcome: the phase after it, and a report, none if its number is 0.
-#[derive(Drop)]
+#[derive(Clone, Copy)]
 pub struct Move {
     pub phase: Phase,
     pub number: u8,

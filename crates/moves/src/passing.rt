@@ -37,6 +37,7 @@ pub(crate) fn making(number: u8, reason: u8, p: Phase) -> Move
 }
 
 // Whether a gap ends what is open.
+#[tactic(auto, unfolding(crate::specs::Moves::is_silent))]
 pub fn is_silent(gap: Micros) -> bool
     ensures { result ≡ is_silent gap }
 {
@@ -44,6 +45,7 @@ pub fn is_silent(gap: Micros) -> bool
 }
 
 // The reason of a message held, or of damage.
+#[tactic(auto, unfolding(crate::specs::Moves::loss_reason))]
 fn loss_reason(p: Phase, reason: u8) -> u8
     ensures { result ≡ loss_reason p reason }
 {
@@ -56,6 +58,7 @@ fn loss_reason(p: Phase, reason: u8) -> u8
 }
 
 // Whether what is open is a message that is right as it stands: a car's.
+#[tactic(auto, unfolding(crate::specs::Moves::is_right))]
 fn is_right(p: Phase) -> bool
     ensures { result ≡ is_right p }
 {
@@ -65,6 +68,7 @@ fn is_right(p: Phase) -> bool
 }
 
 // What is open has ended: a frame, or damage.
+#[tactic(auto, unfolding(crate::specs::Moves::ended))]
 pub fn end_open(p: Phase) -> Move
     ensures { result ≡ ended p }
 {
@@ -80,6 +84,7 @@ pub fn end_open(p: Phase) -> Move
 }
 
 // 20 ms pass with something open.
+#[tactic(auto, unfolding(crate::specs::Moves::after_silence))]
 pub fn after_silence(p: Phase, gap: Micros) -> Move
     ensures { result ≡ after_silence p gap }
 {
@@ -93,6 +98,7 @@ pub fn after_silence(p: Phase, gap: Micros) -> Move
 
 // Whether a byte of this side ends the message held: under 94 94 the unit's byte ends the tester's
 // message.
+#[tactic(auto, unfolding(crate::specs::Moves::is_cut_in))]
 pub fn is_cut_in(p: Phase, side: Side) -> bool
     ensures { result ≡ is_cut_in p side }
 {
@@ -105,6 +111,7 @@ pub fn is_cut_in(p: Phase, side: Side) -> bool
 }
 
 // P2 max passes while a first reply is awaited.
+#[tactic(auto, unfolding(crate::specs::Moves::after_p2))]
 pub fn after_p2(p: Phase, gap: Micros) -> Move
     ensures { result ≡ after_p2 p gap }
 {
@@ -119,6 +126,7 @@ pub fn after_p2(p: Phase, gap: Micros) -> Move
 }
 
 // P3 max passes while no first reply is awaited.
+#[tactic(auto, unfolding(crate::specs::Moves::after_p3))]
 pub fn after_p3(p: Phase, gap: Micros) -> Move
     ensures { result ≡ after_p3 p gap }
 {
@@ -138,6 +146,7 @@ pub fn after_p3(p: Phase, gap: Micros) -> Move
 }
 
 // The time since the origin of an initialization's next byte, the mark or the fall.
+#[tactic(auto, unfolding(crate::specs::Moves::since_origin))]
 pub fn since_origin(p: Phase, mark: Micros, time: Micros) -> Micros
     ensures { result ≡ since_origin p mark time }
 {
@@ -147,6 +156,7 @@ pub fn since_origin(p: Phase, mark: Micros, time: Micros) -> Micros
 }
 
 // The present window of an initialization passes.
+#[tactic(auto, unfolding(crate::specs::Moves::after_window))]
 pub fn after_window(p: Phase, mark: Micros, time: Micros) -> Move
     ensures { result ≡ after_window p mark time }
 {
@@ -160,6 +170,7 @@ pub fn after_window(p: Phase, mark: Micros, time: Micros) -> Move
 }
 
 // An address, a wake-up or a drop closes what is open.
+#[tactic(auto, unfolding(crate::specs::Moves::closing))]
 pub fn close_open(p: Phase) -> Move
     ensures { result ≡ closing p }
 {
@@ -179,6 +190,7 @@ pub fn close_open(p: Phase) -> Move
 
 // A connected link with nothing open goes down; a drop of one that is down only sets its idle time
 // back.
+#[tactic(auto, unfolding(crate::specs::Moves::leaving))]
 pub fn leave(p: Phase, reason: u8) -> Move
     ensures { result ≡ leaving p reason }
 {

@@ -1,4 +1,6 @@
 // What a link is at: a state by name, beside what each state uses.
+#![tactic(auto)]
+
 mod states;
 
 use starts::Start;
@@ -12,7 +14,7 @@ use units::Micros;
 
 // Down; in an initialization; connected with nothing open, with a message held, with damage being
 // skipped.
-#[derive(Drop)]
+#[derive(Clone, Copy)]
 pub enum State {
     Down,
     Starting,
@@ -23,7 +25,7 @@ pub enum State {
 
 // The state, beside what each state uses. Numbers of eight bytes come first and single bytes are
 // eight: there is no padding.
-#[derive(Drop)]
+#[derive(Clone, Copy)]
 pub struct Phase {
     pub windows: Windows,
     pub message: Message,

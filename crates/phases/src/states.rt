@@ -11,6 +11,7 @@ use timing::Windows;
 use units::Micros;
 
 // Whether a link is down.
+#[tactic(auto, unfolding(crate::specs::Phases::is_down))]
 pub fn is_down(state: State) -> bool
     ensures { result ≡ is_down state }
 {
@@ -24,6 +25,7 @@ pub fn is_down(state: State) -> bool
 }
 
 // Whether a link is in an initialization.
+#[tactic(auto, unfolding(crate::specs::Phases::is_starting))]
 pub fn is_starting(state: State) -> bool
     ensures { result ≡ is_starting state }
 {
@@ -37,6 +39,7 @@ pub fn is_starting(state: State) -> bool
 }
 
 // Whether a link is connected with nothing open.
+#[tactic(auto, unfolding(crate::specs::Phases::is_quiet))]
 pub fn is_quiet(state: State) -> bool
     ensures { result ≡ is_quiet state }
 {
@@ -50,6 +53,7 @@ pub fn is_quiet(state: State) -> bool
 }
 
 // Whether a link holds a message.
+#[tactic(auto, unfolding(crate::specs::Phases::is_held))]
 pub fn is_held(state: State) -> bool
     ensures { result ≡ is_held state }
 {
@@ -63,6 +67,7 @@ pub fn is_held(state: State) -> bool
 }
 
 // Whether a link holds a message or skips damage.
+#[tactic(auto, unfolding(crate::specs::Phases::is_open))]
 pub fn is_open(state: State) -> bool
     ensures { result ≡ is_open state }
 {
@@ -123,6 +128,7 @@ fn unconnected_at(state: State, idle: Micros, fall: Micros, start: Start) -> Pha
 }
 
 // Down, with the idle time before the next start.
+#[tactic(auto, unfolding(crate::specs::Phases::down))]
 pub fn go_down(idle: Micros) -> Phase
     ensures { result ≡ down idle }
 {
@@ -137,6 +143,7 @@ pub fn go_off() -> Phase
 }
 
 // In an initialization.
+#[tactic(auto, unfolding(crate::specs::Phases::starting))]
 pub fn begin_start(fall: Micros, start: Start) -> Phase
     ensures { result ≡ starting fall start }
 {
@@ -144,6 +151,7 @@ pub fn begin_start(fall: Micros, start: Start) -> Phase
 }
 
 // Just connected.
+#[tactic(auto, unfolding(crate::specs::Phases::connected))]
 pub fn connect(start: Start) -> Phase
     ensures { result ≡ connected start }
 {
@@ -161,6 +169,7 @@ pub fn connect(start: Start) -> Phase
 }
 
 // Connected: what is open, and the reply that may come.
+#[tactic(auto, unfolding(crate::specs::Phases::talking))]
 fn talk_on(p: Phase, state: State, reply: Reply, message: Message) -> Phase
     ensures { result ≡ talking p state reply message }
 {
@@ -183,6 +192,7 @@ fn talk_on(p: Phase, state: State, reply: Reply, message: Message) -> Phase
 }
 
 // With a message held.
+#[tactic(auto, unfolding(crate::specs::Phases::holding))]
 pub fn hold(p: Phase, m: Message) -> Phase
     ensures { result ≡ holding p m }
 {
@@ -191,6 +201,7 @@ pub fn hold(p: Phase, m: Message) -> Phase
 }
 
 // With damage being skipped.
+#[tactic(auto, unfolding(crate::specs::Phases::damaged))]
 pub fn damage(p: Phase, why: u8) -> Phase
     ensures { result ≡ damaged p why }
 {
@@ -201,6 +212,7 @@ pub fn damage(p: Phase, why: u8) -> Phase
 }
 
 // With nothing open, and no reply expected.
+#[tactic(auto, unfolding(crate::specs::Phases::settled))]
 pub fn settle(p: Phase) -> Phase
     ensures { result ≡ settled p }
 {
@@ -209,6 +221,7 @@ pub fn settle(p: Phase) -> Phase
 }
 
 // With other windows, and another latest request.
+#[tactic(auto, unfolding(crate::specs::Phases::timed))]
 fn with_timing(p: Phase, windows: Windows, seven: u64, request: Request) -> Phase
     ensures { result ≡ timed p windows seven request }
 {
@@ -232,6 +245,7 @@ fn with_timing(p: Phase, windows: Windows, seven: u64, request: Request) -> Phas
 }
 
 // After a tester frame.
+#[tactic(auto, unfolding(crate::specs::Phases::asked))]
 fn ask(p: Phase) -> Phase
     ensures { result ≡ asked p }
 {
@@ -242,6 +256,7 @@ fn ask(p: Phase) -> Phase
 }
 
 // After a unit frame.
+#[tactic(auto, unfolding(crate::specs::Phases::answered))]
 fn answer(p: Phase) -> Phase
     ensures { result ≡ answered p }
 {
@@ -254,6 +269,7 @@ fn answer(p: Phase) -> Phase
 }
 
 // After the frame that was held.
+#[tactic(auto, unfolding(crate::specs::Phases::framed))]
 pub fn end_frame(p: Phase) -> Phase
     ensures { result ≡ framed p }
 {

@@ -2,6 +2,8 @@
 // them out of the rules. An event is a record of 20 bytes: the letters of its kind and side, its
 // value, a zero, and start and end in 64 bits each, lowest byte first. A record whose kind is 0 ends
 // a list: its counts are printed, and the next link is a fresh one.
+#![tactic(auto)]
+
 use events::Event;
 use libc::{STDIN_FILENO, STDOUT_FILENO};
 use link::Link;
@@ -9,14 +11,14 @@ use reports::{Counts, Report, Reports};
 use units::Micros;
 
 // A link, with the counts that it is lent.
-#[derive(Drop)]
+#[derive(Clone, Copy)]
 struct Session {
     link: Link,
     counts: Counts,
 }
 
 // A record: its event; whether there is one, and whether it ends a list.
-#[derive(Drop)]
+#[derive(Clone, Copy)]
 struct Record {
     event: Event,
     there: bool,

@@ -9,6 +9,7 @@ use crate::{Counts, Report, Reports};
 const MOST: u64 = 4_000_000_000;
 
 // Counts at 0.
+#[tactic(auto, unfolding(crate::specs::Counting::zero_counts))]
 pub fn no_counts() -> Counts
     ensures { result ≡ zero_counts }
 {
@@ -24,6 +25,7 @@ pub fn no_counts() -> Counts
 }
 
 // Whether no more events are taken. A number that has the bits of all of them is at least each.
+#[tactic(auto, unfolding(crate::specs::Counting::is_full))]
 pub fn is_full(events: u64, c: Counts) -> bool
     ensures { result ≡ is_full events c }
 {
@@ -49,6 +51,7 @@ pub fn is_full(events: u64, c: Counts) -> bool
 }
 
 // A report is counted.
+#[tactic(auto, unfolding(crate::specs::Counting::counted_one))]
 fn count_one(c: Counts, x: Report) -> Counts
     ensures { result ≡ counted_one c x }
 {
@@ -68,6 +71,7 @@ fn count_one(c: Counts, x: Report) -> Counts
 }
 
 // An event's reports are counted.
+#[tactic(auto, unfolding(crate::specs::Counting::counted_all))]
 fn count_all(c: Counts, rs: Reports) -> Counts
     ensures { result ≡ counted_all c (listed rs) }
 {
@@ -91,6 +95,7 @@ fn count_all(c: Counts, rs: Reports) -> Counts
 }
 
 // A byte is heard, or none.
+#[tactic(auto, unfolding(crate::specs::Counting::counted_byte))]
 pub fn count_byte(c: Counts, hears: bool) -> Counts
     ensures { result ≡ counted_byte c hears }
 {
@@ -106,6 +111,7 @@ pub fn count_byte(c: Counts, hears: bool) -> Counts
 }
 
 // The counts after an event that was taken: its byte if it is one, and its reports.
+#[tactic(auto, unfolding(crate::specs::Counting::counted_event))]
 pub fn count_event(c: Counts, hears: bool, rs: Reports) -> Counts
     ensures { result ≡ counted_event c hears rs }
 {

@@ -1,4 +1,6 @@
 // Reports and counts: made, appended and counted in one place each.
+#![tactic(auto)]
+
 mod counting;
 mod telling;
 
@@ -9,7 +11,7 @@ use units::Micros;
 
 // A report: the bytes it names by the first one's index and their number, the end time of its event,
 // its number and its reason.
-#[derive(Drop)]
+#[derive(Clone, Copy)]
 pub struct Report {
     pub first: u64,
     pub bytes: u64,
@@ -22,7 +24,7 @@ pub struct Report {
 pub const PLACES: usize = 4;
 
 // The reports of an event: those in the first n places.
-#[derive(Drop)]
+#[derive(Clone, Copy)]
 pub struct Reports {
     pub a: Report,
     pub b: Report,
@@ -32,7 +34,7 @@ pub struct Reports {
 }
 
 // The seven counts: bytes heard, bytes in reports 1, 2, 3 with 4, and 5, reports 1, reports 2.
-#[derive(Drop)]
+#[derive(Clone, Copy)]
 pub struct Counts {
     pub heard: u64,
     pub framed: u64,
@@ -44,7 +46,7 @@ pub struct Counts {
 }
 
 // A step under way: what the link will be at, the bytes heard and named, and the reports so far.
-#[derive(Drop)]
+#[derive(Clone, Copy)]
 pub struct Run {
     pub phase: Phase,
     pub heard: u64,

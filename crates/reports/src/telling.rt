@@ -34,6 +34,7 @@ pub fn no_reports() -> Reports
 }
 
 // Whether a report names bytes.
+#[tactic(auto, unfolding(crate::specs::Reporting::names_bytes))]
 fn names_bytes(number: u8) -> bool
     ensures { result ≡ names_bytes number }
 {
@@ -41,6 +42,7 @@ fn names_bytes(number: u8) -> bool
 }
 
 // A report as the step stands.
+#[tactic(auto, unfolding(crate::specs::Reporting::report_of))]
 fn make_report(r: Run, number: u8, reason: u8) -> Report
     ensures { result ≡ report_of r number reason }
 {
@@ -56,6 +58,7 @@ fn make_report(r: Run, number: u8, reason: u8) -> Report
 }
 
 // A report after the others.
+#[tactic(auto, unfolding(crate::specs::Reporting::appended))]
 fn append(rs: Reports, r: Report) -> Reports
     ensures { result ≡ appended rs r }
 {
@@ -84,6 +87,7 @@ fn append(rs: Reports, r: Report) -> Reports
 }
 
 // A move with its report.
+#[tactic(auto, unfolding(crate::specs::Reporting::told))]
 fn tell(r: Run, m: Move) -> Run
     ensures { result ≡ told r m }
 {
@@ -115,6 +119,7 @@ fn with_phase(r: Run, p: Phase) -> Run
 }
 
 // A move.
+#[tactic(auto, unfolding(crate::specs::Reporting::moved))]
 pub fn make(r: Run, m: Move) -> Run
     ensures { result ≡ moved r m }
 {

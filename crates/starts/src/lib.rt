@@ -1,4 +1,6 @@
 // The two initializations, as the stages that each goes through.
+#![tactic(auto)]
+
 ghost use Rattle.std.specs.Prelude.{◌≡◌};
 ghost use Rattle.starts.specs.Starts.{due, first_due, last_due, due_at, origin_of, complement, is_reply_format, fits};
 ghost use Rattle.starts.specs.Starts.{is_from, is_early, judged, is_over};
@@ -10,7 +12,7 @@ use keys::Pair;
 use units::Micros;
 
 // The byte that is due next.
-#[derive(Drop)]
+#[derive(Clone, Copy)]
 pub enum Stage {
     // the slow start: 55, KB1, KB2, the tester's answer, the unit's
     Sync,
@@ -39,7 +41,7 @@ pub enum Stage {
 
 // What is expected of a byte: the window in which it starts, its side, and whether it is the first of
 // a fast start or the last of either.
-#[derive(Drop)]
+#[derive(Clone, Copy)]
 struct Due {
     earliest: Micros,
     latest: Micros,
@@ -50,7 +52,7 @@ struct Due {
 
 // How far an initialization has come: its key bytes as far as they have come, the address of a slow
 // one, the sum of a fast one's bytes so far, the stage.
-#[derive(Drop)]
+#[derive(Clone, Copy)]
 pub struct Start {
     pub pair: Pair,
     pub address: u8,
@@ -98,6 +100,7 @@ fn last_due(side: Side, earliest: u64, latest: u64) -> Due
 }
 
 // What is expected of a stage's byte.
+#[tactic(auto, unfolding(crate::specs::Starts::due_at))]
 fn due_at(stage: Stage) -> Due
     ensures { result ≡ due_at stage }
 {
@@ -126,6 +129,7 @@ fn due_at(stage: Stage) -> Due
 }
 
 // Where the time of a stage's byte runs from.
+#[tactic(auto, unfolding(crate::specs::Starts::origin_of))]
 pub fn origin(stage: Stage, fall: Micros, mark: Micros) -> Micros
     ensures { result ≡ origin_of stage fall mark }
 {
@@ -137,6 +141,7 @@ pub fn origin(stage: Stage, fall: Micros, mark: Micros) -> Micros
 }
 
 // 255 minus a byte.
+#[tactic(auto, unfolding(crate::specs::Starts::complement))]
 pub fn inverse(x: u8) -> u8
     ensures { result ≡ complement x }
 {
@@ -144,6 +149,7 @@ pub fn inverse(x: u8) -> u8
 }
 
 // Whether a byte is the format byte of a fast start's reply.
+#[tactic(auto, unfolding(crate::specs::Starts::is_reply_format))]
 fn is_reply_format(v: u8) -> bool
     ensures { result ≡ is_reply_format v }
 {
@@ -151,6 +157,7 @@ fn is_reply_format(v: u8) -> bool
 }
 
 // Whether a byte's value fits.
+#[tactic(auto, unfolding(crate::specs::Starts::fits))]
 fn is_fitting(s: Start, v: u8) -> bool
     ensures { result ≡ fits s v }
 {
@@ -184,6 +191,7 @@ fn is_fitting(s: Start, v: u8) -> bool
 }
 
 // Whether a byte comes from the side that is due.
+#[tactic(auto, unfolding(crate::specs::Starts::is_from))]
 fn is_from(s: Start, side: Side) -> bool
     ensures { result ≡ is_from s side }
 {
@@ -194,6 +202,7 @@ fn is_from(s: Start, side: Side) -> bool
 }
 
 // Whether a byte that comes so long after its origin is early.
+#[tactic(auto, unfolding(crate::specs::Starts::is_early))]
 fn is_early(s: Start, gap: Micros) -> bool
     ensures { result ≡ is_early s gap }
 {
@@ -203,6 +212,7 @@ fn is_early(s: Start, gap: Micros) -> bool
 }
 
 // Judges a byte that comes so long after its origin: the reason it fails for, or 0.
+#[tactic(auto, unfolding(crate::specs::Starts::judged))]
 pub fn judge(s: Start, side: Side, v: u8, gap: Micros) -> u8
     ensures { result ≡ judged s side v gap }
 {
@@ -220,6 +230,7 @@ pub fn judge(s: Start, side: Side, v: u8, gap: Micros) -> u8
 }
 
 // Whether the end of the present window has passed, so long after its origin.
+#[tactic(auto, unfolding(crate::specs::Starts::is_over))]
 pub fn is_past(s: Start, gap: Micros) -> bool
     ensures { result ≡ is_over s gap }
 {
@@ -229,6 +240,7 @@ pub fn is_past(s: Start, gap: Micros) -> bool
 }
 
 // The stage after the reply's format byte.
+#[tactic(auto, unfolding(crate::specs::Starts::after_format))]
 fn after_format(v: u8) -> Stage
     ensures { result ≡ after_format v }
 {
@@ -307,6 +319,7 @@ fn end_request(s: Start, stage: Stage) -> Start
 }
 
 // The initialization after a byte that fits.
+#[tactic(auto, unfolding(crate::specs::Starts::onward))]
 pub fn go_onward(s: Start, v: u8) -> Start
     ensures { result ≡ onward s v }
 {
@@ -336,6 +349,7 @@ pub fn go_onward(s: Start, v: u8) -> Start
 }
 
 // Whether a stage's byte is the last of its initialization.
+#[tactic(auto, unfolding(crate::specs::Starts::is_last))]
 pub fn is_last(stage: Stage) -> bool
     ensures { result ≡ is_last stage }
 {
@@ -344,6 +358,7 @@ pub fn is_last(stage: Stage) -> bool
 }
 
 // No initialization.
+#[tactic(auto, unfolding(crate::specs::Starts::no_start))]
 pub fn none() -> Start
     ensures { result ≡ no_start }
 {
@@ -356,6 +371,7 @@ pub fn none() -> Start
 }
 
 // A slow initialization, just after its address.
+#[tactic(auto, unfolding(crate::specs::Starts::slow_start))]
 pub fn slow(address: u8) -> Start
     ensures { result ≡ slow_start address }
 {
@@ -368,6 +384,7 @@ pub fn slow(address: u8) -> Start
 }
 
 // A fast initialization, just after its wake-up.
+#[tactic(auto, unfolding(crate::specs::Starts::fast_start))]
 pub fn fast() -> Start
     ensures { result ≡ fast_start }
 {

@@ -1,12 +1,14 @@
 // Runs the leaves over many inputs, good and bad, and prints what came as counts and digests.
 // `tests/reference.py`, written apart from the definitions, works the same lines out of the rules.
+#![tactic(auto)]
+
 mod frames;
 mod marks;
 mod times;
 
 // What a run of cases came to: how many were taken, how many came back (codes that their windows
 // have as codes, slices that read well), and a digest of all answers.
-#[derive(Drop)]
+#[derive(Clone, Copy)]
 struct Tally {
     digest: u32,
     taken: u32,

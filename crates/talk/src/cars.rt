@@ -9,6 +9,7 @@ use events::Side;
 const MOST_COUNTED: u8 = 12;
 
 // Whether the byte at an index is right as one of the head. After the head any is.
+#[tactic(auto, unfolding(crate::specs::Cars::is_head_byte))]
 fn is_head_byte(side: Side, at: u8, v: u8) -> bool
     ensures { result ≡ is_head_byte side at v }
 {
@@ -23,6 +24,7 @@ fn is_head_byte(side: Side, at: u8, v: u8) -> bool
 }
 
 // One byte more.
+#[tactic(auto, unfolding(crate::specs::Cars::counted_up))]
 fn count_up(at: u8) -> u8
     ensures { result ≡ counted_up at }
 {
@@ -33,6 +35,7 @@ fn count_up(at: u8) -> u8
 }
 
 // Whether a message may have so many bytes.
+#[tactic(auto, unfolding(crate::specs::Cars::is_car_size))]
 fn is_car_size(n: u8) -> bool
     ensures { result ≡ is_car_size n }
 {
@@ -40,6 +43,7 @@ fn is_car_size(n: u8) -> bool
 }
 
 // A message with one byte more.
+#[tactic(auto, unfolding(crate::specs::Cars::car_grown))]
 pub(crate) fn grow_car(m: Message, v: u8) -> Message
     ensures { result ≡ car_grown m v }
 {
@@ -60,6 +64,7 @@ pub(crate) fn grow_car(m: Message, v: u8) -> Message
 
 // The reason that a message is damage for if it ends here, or 0: its head, then its size, then its
 // sum.
+#[tactic(auto, unfolding(crate::specs::Cars::car_reason))]
 pub(crate) fn car_reason(m: Message) -> u8
     ensures { result ≡ car_reason m }
 {
@@ -95,6 +100,7 @@ fn empty_car(side: Side) -> Message
 }
 
 // A message just begun.
+#[tactic(auto, unfolding(crate::specs::Cars::car_begun))]
 pub(crate) fn begin_car(side: Side, v: u8) -> Message
     ensures { result ≡ car_begun side v }
 {

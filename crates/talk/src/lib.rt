@@ -1,4 +1,6 @@
 // Messages of a connected link, byte by byte, and what a frame does.
+#![tactic(auto)]
+
 mod cars;
 
 ghost use Rattle.std.specs.Prelude.{◌≡◌, [], ◌∷◌};
@@ -26,7 +28,7 @@ const FIVE_BYTES: u64 = FOUR_BYTES * 256;
 const SIX_BYTES: u64 = FIVE_BYTES * 256;
 
 // The reply that may come: none, a first one, a further one.
-#[derive(Drop)]
+#[derive(Clone, Copy)]
 pub enum Reply {
     Never,
     First,
@@ -34,7 +36,7 @@ pub enum Reply {
 }
 
 // What the latest tester frame asks for. Stopped is a stop that the unit has answered.
-#[derive(Drop)]
+#[derive(Clone, Copy)]
 pub enum Request {
     Ordinary,
     Stop,
@@ -44,7 +46,7 @@ pub enum Request {
 }
 
 // The part of a message that its next byte is.
-#[derive(Drop)]
+#[derive(Clone, Copy)]
 pub enum Part {
     Target,
     Source,
@@ -60,7 +62,7 @@ pub enum Part {
 // first data byte; and the reason of damage. Of a car's message: its last byte (`length`: it has
 // none), how many bytes it has so far, up to 12 (`at`), the sum of all but the last, and whether its
 // head is wrong (`why`).
-#[derive(Drop)]
+#[derive(Clone, Copy)]
 pub struct Message {
     pub seven: u64,
     pub side: Side,
@@ -74,6 +76,7 @@ pub struct Message {
 }
 
 // Whether a first reply is awaited.
+#[tactic(auto, unfolding(crate::specs::Talk::is_first))]
 pub fn is_first(reply: Reply) -> bool
     ensures { result ≡ is_first reply }
 {
@@ -85,6 +88,7 @@ pub fn is_first(reply: Reply) -> bool
 }
 
 // The reason against a tester's first byte, so long after the mark.
+#[tactic(auto, unfolding(crate::specs::Talk::tester_turn))]
 fn tester_turn(reply: Reply, w: Windows, gap: Micros) -> u8
     ensures { result ≡ tester_turn reply w gap }
 {
@@ -93,6 +97,7 @@ fn tester_turn(reply: Reply, w: Windows, gap: Micros) -> u8
 }
 
 // Whether a unit's first byte is stray.
+#[tactic(auto, unfolding(crate::specs::Talk::is_stray))]
 fn is_stray(reply: Reply, w: Windows, gap: Micros) -> bool
     ensures { result ≡ is_stray reply w gap }
 {
@@ -105,6 +110,7 @@ fn is_stray(reply: Reply, w: Windows, gap: Micros) -> bool
 }
 
 // Whether a unit's first byte is early.
+#[tactic(auto, unfolding(crate::specs::Talk::is_hasty))]
 fn is_hasty(w: Windows, gap: Micros) -> bool
     ensures { result ≡ is_hasty w gap }
 {
@@ -112,6 +118,7 @@ fn is_hasty(w: Windows, gap: Micros) -> bool
 }
 
 // The reason against a unit's first byte.
+#[tactic(auto, unfolding(crate::specs::Talk::unit_turn))]
 fn unit_turn(reply: Reply, w: Windows, gap: Micros) -> u8
     ensures { result ≡ unit_turn reply w gap }
 {
@@ -125,6 +132,7 @@ fn unit_turn(reply: Reply, w: Windows, gap: Micros) -> u8
 }
 
 // The reason against a first byte by its side and time.
+#[tactic(auto, unfolding(crate::specs::Talk::turn_reason))]
 fn turn_reason(reply: Reply, w: Windows, side: Side, gap: Micros) -> u8
     ensures { result ≡ turn_reason reply w side gap }
 {
@@ -135,6 +143,7 @@ fn turn_reason(reply: Reply, w: Windows, side: Side, gap: Micros) -> u8
 }
 
 // Whether a length byte follows a format byte.
+#[tactic(auto, unfolding(crate::specs::Talk::has_extra))]
 fn has_extra(f: u8) -> bool
     ensures { result ≡ has_extra f }
 {
@@ -142,6 +151,7 @@ fn has_extra(f: u8) -> bool
 }
 
 // Whether KB1 announces the place of a length.
+#[tactic(auto, unfolding(crate::specs::Talk::place_announced))]
 fn place_announced(kb1: u8, f: u8) -> bool
     ensures { result ≡ place_announced kb1 f }
 {
@@ -152,6 +162,7 @@ fn place_announced(kb1: u8, f: u8) -> bool
 }
 
 // The reason against a format byte.
+#[tactic(auto, unfolding(crate::specs::Talk::head_reason))]
 fn head_reason(kb1: u8, f: u8) -> u8
     ensures { result ≡ head_reason kb1 f }
 {
@@ -170,6 +181,7 @@ fn head_reason(kb1: u8, f: u8) -> u8
 }
 
 // The reason against the first byte of a message of a 14230 link, so long after the mark, or 0.
+#[tactic(auto, unfolding(crate::specs::Talk::frame_reason))]
 pub fn frame_reason(kb1: u8, reply: Reply, w: Windows, side: Side, f: u8, gap: Micros) -> u8
     ensures { result ≡ frame_reason kb1 reply w side f gap }
 {
@@ -181,6 +193,7 @@ pub fn frame_reason(kb1: u8, reply: Reply, w: Windows, side: Side, f: u8, gap: M
 }
 
 // The same, of either edition.
+#[tactic(auto, unfolding(crate::specs::Talk::first_reason))]
 pub fn first_reason(pair: Pair, reply: Reply, w: Windows, side: Side, f: u8, gap: Micros) -> u8
     ensures { result ≡ first_reason pair reply w side f gap }
 {
@@ -191,6 +204,7 @@ pub fn first_reason(pair: Pair, reply: Reply, w: Windows, side: Side, f: u8, gap
 }
 
 // The part after the addresses.
+#[tactic(auto, unfolding(crate::specs::Talk::after_addresses))]
 fn after_addresses(extra: bool) -> Part
     ensures { result ≡ after_addresses extra }
 {
@@ -201,6 +215,7 @@ fn after_addresses(extra: bool) -> Part
 }
 
 // The part after the format byte.
+#[tactic(auto, unfolding(crate::specs::Talk::part_after_format))]
 fn part_after_format(form: Form, extra: bool) -> Part
     ensures { result ≡ part_after_format form extra }
 {
@@ -213,6 +228,7 @@ fn part_after_format(form: Form, extra: bool) -> Part
 }
 
 // A message of a 14230 link, just begun with its format byte.
+#[tactic(auto, unfolding(crate::specs::Talk::begun))]
 pub fn begin_frame(side: Side, f: u8) -> Message
     ensures { result ≡ begun side f }
 {
@@ -231,6 +247,7 @@ pub fn begin_frame(side: Side, f: u8) -> Message
 }
 
 // A message just begun, of either edition.
+#[tactic(auto, unfolding(crate::specs::Talk::begun_by))]
 pub fn begin(pair: Pair, side: Side, f: u8) -> Message
     ensures { result ≡ begun_by pair side f }
 {
@@ -256,6 +273,7 @@ fn part_reason(m: Message, v: u8) -> u8
 }
 
 // The reason against a later byte of a message, or 0.
+#[tactic(auto, unfolding(crate::specs::Talk::later_reason))]
 pub fn later_reason(m: Message, side: Side, v: u8) -> u8
     ensures { result ≡ later_reason m side v }
 {
@@ -268,6 +286,7 @@ pub fn later_reason(m: Message, side: Side, v: u8) -> u8
 }
 
 // Whether a message's next byte is its checksum.
+#[tactic(auto, unfolding(crate::specs::Talk::is_sum))]
 pub fn is_sum(part: Part) -> bool
     ensures { result ≡ is_sum part }
 {
@@ -282,6 +301,7 @@ pub fn is_sum(part: Part) -> bool
 }
 
 // Whether a message is a car's.
+#[tactic(auto, unfolding(crate::specs::Talk::is_free))]
 fn is_free(part: Part) -> bool
     ensures { result ≡ is_free part }
 {
@@ -297,6 +317,7 @@ fn is_free(part: Part) -> bool
 
 // The reason of a message that has ended because 20 ms have passed, or of a car's that a unit's byte
 // ends; or 0.
+#[tactic(auto, unfolding(crate::specs::Talk::end_reason))]
 pub fn end_reason(m: Message) -> u8
     ensures { result ≡ end_reason m }
 {
@@ -308,6 +329,7 @@ pub fn end_reason(m: Message) -> u8
 }
 
 // The first seven data bytes, with the one at an index.
+#[tactic(auto, unfolding(crate::specs::Talk::with_seven))]
 fn with_seven(seven: u64, at: u8, v: u8) -> u64
     ensures { result ≡ with_seven seven at v }
 {
@@ -318,6 +340,7 @@ fn with_seven(seven: u64, at: u8, v: u8) -> u64
 }
 
 // The part after a data byte.
+#[tactic(auto, unfolding(crate::specs::Talk::after_data))]
 fn after_data(at: u8, length: u8) -> Part
     ensures { result ≡ after_data at length }
 {
@@ -364,6 +387,7 @@ fn with_length(m: Message, v: u8) -> Message
 }
 
 // A message with one data byte more.
+#[tactic(auto, unfolding(crate::specs::Talk::with_data))]
 fn with_data(m: Message, v: u8) -> Message
     ensures { result ≡ with_data m v }
 {
@@ -383,6 +407,7 @@ fn with_data(m: Message, v: u8) -> Message
 }
 
 // A message with one byte more.
+#[tactic(auto, unfolding(crate::specs::Talk::grown))]
 pub fn grow(m: Message, v: u8) -> Message
     ensures { result ≡ grown m v }
 {
@@ -398,6 +423,7 @@ pub fn grow(m: Message, v: u8) -> Message
 }
 
 // Whether a frame's data is exactly these two bytes.
+#[tactic(auto, unfolding(crate::specs::Talk::is_exactly))]
 fn is_exactly(m: Message, a: u8, b: u8) -> bool
     ensures { result ≡ is_exactly m (a ∷ b ∷ []) }
 {
@@ -405,6 +431,7 @@ fn is_exactly(m: Message, a: u8, b: u8) -> bool
 }
 
 // Whether a frame's data is 83 03 and five codes.
+#[tactic(auto, unfolding(crate::specs::Talk::asks_codes))]
 fn asks_codes(m: Message) -> bool
     ensures { result ≡ asks_codes m }
 {
@@ -412,6 +439,7 @@ fn asks_codes(m: Message) -> bool
 }
 
 // What a tester frame asks for.
+#[tactic(auto, unfolding(crate::specs::Talk::request_of))]
 pub fn request_of(m: Message) -> Request
     ensures { result ≡ request_of m }
 {
@@ -428,6 +456,7 @@ pub fn request_of(m: Message) -> Request
 }
 
 // Whether a unit frame makes a request take effect.
+#[tactic(auto, unfolding(crate::specs::Talk::is_effective))]
 fn is_effective(request: Request, m: Message) -> bool
     ensures { result ≡ is_effective request m }
 {
@@ -441,6 +470,7 @@ fn is_effective(request: Request, m: Message) -> bool
 }
 
 // The five codes among the first seven data bytes.
+#[tactic(auto, unfolding(crate::specs::Talk::codes_in))]
 fn codes_in(seven: u64) -> Codes
     ensures { result ≡ codes_in seven }
 {
@@ -454,6 +484,7 @@ fn codes_in(seven: u64) -> Codes
 }
 
 // The windows of codes if they are allowed, else those in force.
+#[tactic(auto, unfolding(crate::specs::Talk::if_allowed))]
 fn if_allowed(d: Decoded, w: Windows) -> Windows
     ensures { result ≡ if_allowed d w }
 {
@@ -464,6 +495,7 @@ fn if_allowed(d: Decoded, w: Windows) -> Windows
 }
 
 // The windows when a request takes effect.
+#[tactic(auto, unfolding(crate::specs::Talk::windows_for))]
 fn windows_for(request: Request, pair: Pair, seven: u64, w: Windows) -> Windows
     ensures { result ≡ windows_for request pair seven w }
 {
@@ -477,6 +509,7 @@ fn windows_for(request: Request, pair: Pair, seven: u64, w: Windows) -> Windows
 }
 
 // The windows after a unit frame, the first seven data bytes of whose request are given.
+#[tactic(auto, unfolding(crate::specs::Talk::windows_after))]
 pub fn windows_after(request: Request, m: Message, pair: Pair, seven: u64, w: Windows) -> Windows
     ensures { result ≡ windows_after request m pair seven w }
 {
@@ -487,6 +520,7 @@ pub fn windows_after(request: Request, m: Message, pair: Pair, seven: u64, w: Wi
 }
 
 // A request that has taken effect.
+#[tactic(auto, unfolding(crate::specs::Talk::spent))]
 fn spend(request: Request) -> Request
     ensures { result ≡ spent request }
 {
@@ -500,6 +534,7 @@ fn spend(request: Request) -> Request
 }
 
 // The request after a unit frame.
+#[tactic(auto, unfolding(crate::specs::Talk::request_after))]
 pub fn request_after(request: Request, m: Message) -> Request
     ensures { result ≡ request_after request m }
 {
@@ -510,6 +545,7 @@ pub fn request_after(request: Request, m: Message) -> Request
 }
 
 // Whether the unit has answered a stop.
+#[tactic(auto, unfolding(crate::specs::Talk::is_stopped))]
 pub fn is_stopped(request: Request) -> bool
     ensures { result ≡ is_stopped request }
 {

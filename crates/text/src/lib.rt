@@ -1,6 +1,8 @@
 // The lines of a listing, written into a lent buffer at a place. Each function answers the place
 // after what it wrote. Where the buffer has fewer bytes from that place on than the bound that stands
 // at the function, which no such text exceeds, it writes nothing and answers the place itself.
+#![tactic(auto)]
+
 ghost use Rattle.std.specs.Prelude.{◌∷◌, [], ◌+◌, ◌*◌, ◌≤◌, length};
 ghost use Rattle.reports.specs.Reporting.{listed};
 ghost use Rattle.words.specs.Writing.{number_most, Puts, Writes};
@@ -22,6 +24,7 @@ pub const REFUSED_MOST: usize = 8 + words::NUMBER_MOST;
 pub const END_MOST: usize = 4 + 8 * words::NUMBER_MOST;
 
 // The header: 31 bytes.
+#[tactic(auto, unfolding(crate::specs::Text::head_text))]
 pub fn put_head(out: &mut [u8], at: usize) -> usize
     ensures { Writes head_text head_most at out.old result out.new }
 {
@@ -29,6 +32,7 @@ pub fn put_head(out: &mut [u8], at: usize) -> usize
 }
 
 // A report's line, of at most LINE_MOST bytes.
+#[tactic(auto, unfolding(crate::specs::Text::report_text, crate::specs::Text::line_text))]
 fn put_report(out: &mut [u8], at: usize, x: Report) -> usize
     requires { at + line_most ≤ length out.old }
     ensures { Puts at (report_text x) line_most out.old result out.new }
@@ -74,6 +78,7 @@ pub fn put_reports(out: &mut [u8], at: usize, rs: Reports) -> usize
 }
 
 // The line of a refused line, where there is room.
+#[tactic(auto, unfolding(crate::specs::Text::refused_text, crate::specs::Text::line_text))]
 fn write_refusal(out: &mut [u8], at: usize, no: u8) -> usize
     requires { at + refused_most ≤ length out.old }
     ensures { Puts at (refused_text no) refused_most out.old result out.new }
@@ -93,6 +98,7 @@ pub fn put_refusal(out: &mut [u8], at: usize, no: u8) -> usize
 }
 
 // The counts of bytes, a space after each.
+#[tactic(auto, unfolding(crate::specs::Text::spaced_text))]
 fn put_byte_counts(out: &mut [u8], at: usize, c: Counts) -> usize
     requires { at + 5 * number_most ≤ length out.old }
     ensures { Puts at (spaced_text (c.heard ∷ c.framed ∷ c.damaged ∷ c.started ∷ c.outside ∷ [])) (5 * number_most)
@@ -106,6 +112,7 @@ fn put_byte_counts(out: &mut [u8], at: usize, c: Counts) -> usize
 }
 
 // The rest of the end line: the counts of reports, and the bytes held.
+#[tactic(auto, unfolding(crate::specs::Text::line_text))]
 fn put_report_counts(out: &mut [u8], at: usize, c: Counts, held: u64) -> usize
     requires { at + 3 * number_most ≤ length out.old }
     ensures { Puts at (line_text (c.frames ∷ c.damages ∷ held ∷ [])) (3 * number_most) out.old result out.new }

@@ -1,4 +1,6 @@
 // Timing windows, the five codes that change them, and the sets that key bytes name.
+#![tactic(auto)]
+
 ghost use Rattle.std.specs.Prelude.{◌≡◌};
 ghost use Rattle.timing.specs.Timing.{until_time, no_limit, is_unlimited, time_of, is_passed, is_below};
 ghost use Rattle.timing.specs.Timing.{normal_set, extended_set, quick_set, named_set, set_of, is_allowed};
@@ -12,11 +14,11 @@ use units::{Micros, Step25};
 
 // The end of a window: a time, or no limit. How no limit is kept is nobody else's business: an end is
 // made by `until` and `no_limit`, and asked by `passed`; `time_of` gives the time of one that has one.
-#[derive(Drop)]
+#[derive(Clone, Copy)]
 pub struct Limit(Micros);
 
 // The windows that codes can change. P1 is 0 to 20 ms and P4 max is 20 ms, always.
-#[derive(Drop)]
+#[derive(Clone, Copy)]
 pub struct Windows {
     pub p2min: Micros,
     pub p2max: Limit,
@@ -26,7 +28,7 @@ pub struct Windows {
 }
 
 // The five code bytes, as a frame carries them.
-#[derive(Drop)]
+#[derive(Clone, Copy)]
 pub struct Codes {
     pub p2min: u8,
     pub p2max: u8,
@@ -36,14 +38,14 @@ pub struct Codes {
 }
 
 // The answer of `windows_of`: the number, and the windows, all 0 beside a refusal.
-#[derive(Drop)]
+#[derive(Clone, Copy)]
 pub struct Decoded {
     pub no: u8,
     pub windows: Windows,
 }
 
 // The answer of `codes_of`: the number, and the codes, all 0 beside a refusal.
-#[derive(Drop)]
+#[derive(Clone, Copy)]
 pub struct Encoded {
     pub no: u8,
     pub codes: Codes,
@@ -71,6 +73,7 @@ pub fn no_limit() -> Limit
 }
 
 // Whether a window has no end.
+#[tactic(auto, unfolding(crate::specs::Timing::is_unlimited))]
 pub fn is_unlimited(l: Limit) -> bool
     ensures { result ≡ is_unlimited l }
 {
@@ -78,6 +81,7 @@ pub fn is_unlimited(l: Limit) -> bool
 }
 
 // The time of a window's end, and 0 where it has none.
+#[tactic(auto, unfolding(crate::specs::Timing::time_of))]
 pub fn time_of(l: Limit) -> Micros
     ensures { result ≡ time_of l }
 {
@@ -96,6 +100,7 @@ pub fn passed(l: Limit, gap: Micros) -> bool
 }
 
 // Whether a minimum is below its maximum.
+#[tactic(auto, unfolding(crate::specs::Timing::is_below))]
 fn below(m: Micros, l: Limit) -> bool
     ensures { result ≡ is_below m l }
 {
@@ -142,6 +147,7 @@ fn quick_set() -> Windows
 }
 
 // The set that KB1 names.
+#[tactic(auto, unfolding(crate::specs::Timing::named_set))]
 fn named_set(kb1: u8) -> Windows
     ensures { result ≡ named_set kb1 }
 {
@@ -152,6 +158,7 @@ fn named_set(kb1: u8) -> Windows
 }
 
 // The set that key bytes name, which a connected link starts with.
+#[tactic(auto, unfolding(crate::specs::Timing::set_of))]
 pub fn set_of(pair: Pair) -> Windows
     ensures { result ≡ set_of pair }
 {
@@ -164,6 +171,7 @@ pub fn set_of(pair: Pair) -> Windows
 }
 
 // A minimum by its code.
+#[tactic(auto, unfolding(crate::specs::Timing::min_of))]
 fn min_of(code: u8) -> Micros
     ensures { result ≡ min_of code }
 {
@@ -171,6 +179,7 @@ fn min_of(code: u8) -> Micros
 }
 
 // P2 max by its code.
+#[tactic(auto, unfolding(crate::specs::Timing::p2_max_of))]
 fn p2_max_of(code: u8) -> Limit
     ensures { result ≡ p2_max_of code }
 {
@@ -181,6 +190,7 @@ fn p2_max_of(code: u8) -> Limit
 }
 
 // P3 max by its code.
+#[tactic(auto, unfolding(crate::specs::Timing::p3_max_of))]
 fn p3_max_of(code: u8) -> Limit
     ensures { result ≡ p3_max_of code }
 {
@@ -191,6 +201,7 @@ fn p3_max_of(code: u8) -> Limit
 }
 
 // The windows that codes stand for, allowed or not.
+#[tactic(auto, unfolding(crate::specs::Timing::windows_by))]
 fn windows_by(c: Codes) -> Windows
     ensures { result ≡ windows_by c }
 {
@@ -204,6 +215,7 @@ fn windows_by(c: Codes) -> Windows
 }
 
 // Whether windows are allowed.
+#[tactic(auto, unfolding(crate::specs::Timing::is_allowed))]
 fn is_allowed(w: Windows) -> bool
     ensures { result ≡ is_allowed w }
 {
@@ -214,6 +226,7 @@ fn is_allowed(w: Windows) -> bool
 }
 
 // Codes become windows.
+#[tactic(auto, unfolding(crate::specs::Timing::decoded_of))]
 pub fn windows_of(c: Codes) -> Decoded
     ensures { result ≡ decoded_of c }
 {
@@ -244,6 +257,7 @@ fn not_decoded() -> Decoded
 }
 
 // The code that can give a minimum.
+#[tactic(auto, unfolding(crate::specs::Timing::min_code))]
 fn min_code(m: Micros) -> u8
     ensures { result ≡ min_code m }
 {
@@ -251,6 +265,7 @@ fn min_code(m: Micros) -> u8
 }
 
 // The code of P2 max that can give so many steps of 25 ms.
+#[tactic(auto, unfolding(crate::specs::Timing::p2_steps_code))]
 fn p2_steps_code(s: Step25) -> u8
     ensures { result ≡ p2_steps_code s }
 {
@@ -265,6 +280,7 @@ fn p2_steps_code(s: Step25) -> u8
 }
 
 // The code that can give a P2 max.
+#[tactic(auto, unfolding(crate::specs::Timing::p2_code))]
 fn p2_code(l: Limit) -> u8
     ensures { result ≡ p2_code l }
 {
@@ -275,6 +291,7 @@ fn p2_code(l: Limit) -> u8
 }
 
 // The code that can give a P3 max.
+#[tactic(auto, unfolding(crate::specs::Timing::p3_code))]
 fn p3_code(l: Limit) -> u8
     ensures { result ≡ p3_code l }
 {
@@ -285,6 +302,7 @@ fn p3_code(l: Limit) -> u8
 }
 
 // The only codes that can give these windows.
+#[tactic(auto, unfolding(crate::specs::Timing::codes_by))]
 fn codes_by(w: Windows) -> Codes
     ensures { result ≡ codes_by w }
 {
@@ -298,6 +316,7 @@ fn codes_by(w: Windows) -> Codes
 }
 
 // Whether windows are the same.
+#[tactic(auto, unfolding(crate::specs::Timing::same_windows))]
 fn same_windows(a: Windows, b: Windows) -> bool
     ensures { result ≡ same_windows a b }
 {
@@ -325,6 +344,7 @@ fn not_encoded() -> Encoded
 }
 
 // Windows become codes.
+#[tactic(auto, unfolding(crate::specs::Timing::encoded_of))]
 pub fn codes_of(w: Windows) -> Encoded
     ensures { result ≡ encoded_of w }
 {

@@ -26,6 +26,7 @@ const P2_MAX: [u32; 256] = [
 ];
 
 // P2 max by its code byte, read off the table.
+#[tactic(auto, unfolding(crate::specs::P2Table::table))]
 pub(crate) fn p2_half(code: u8) -> HalfMs
     ensures { result ≡ p2_half code }
 {

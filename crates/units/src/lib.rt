@@ -1,23 +1,25 @@
 // Microseconds, and the steps that timing codes count in. One is turned into another only here:
 // whoever else holds a time or a number of steps holds it in its own type.
+#![tactic(auto)]
+
 ghost use Rattle.std.specs.Prelude.{◌≡◌, ◌<◌};
 ghost use Rattle.units.specs.Units.{half_by, step250_by, byte_of, micros_of_half, micros_of_25, micros_of_250};
 ghost use Rattle.units.specs.Units.{whole_steps, half_of, steps25_of, steps250_of, is_earlier, is_same, gap_of};
 
 // A time, or a length of time, in microseconds.
-#[derive(Drop)]
+#[derive(Clone, Copy)]
 pub struct Micros(pub u64);
 
 // So many steps of 0.5 ms.
-#[derive(Drop)]
+#[derive(Clone, Copy)]
 pub struct HalfMs(pub u32);
 
 // So many steps of 25 ms.
-#[derive(Drop)]
+#[derive(Clone, Copy)]
 pub struct Step25(pub u32);
 
 // So many steps of 250 ms.
-#[derive(Drop)]
+#[derive(Clone, Copy)]
 pub struct Step250(pub u32);
 
 // The length of one step, in microseconds.
@@ -45,6 +47,7 @@ pub fn step_250_by(code: u8) -> Step250
 }
 
 // A number of steps as a code byte, or the greatest byte.
+#[tactic(auto, unfolding(crate::specs::Units::byte_of))]
 fn byte_of(n: u32) -> u8
     ensures { result ≡ byte_of n }
 {
@@ -93,6 +96,7 @@ pub fn micros_of_250(s: Step250) -> Micros
 }
 
 // The whole steps of `step` microseconds in `v`, or the most there can be.
+#[tactic(auto, unfolding(crate::specs::Units::whole_steps))]
 fn whole(v: u64, step: u64) -> u32
     requires { 0 < step }
     ensures { result ≡ whole_steps step v }

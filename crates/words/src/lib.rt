@@ -1,5 +1,7 @@
 // Words of a line: hex and decimal numbers, read at a place of a line and written at a place of a
 // lent buffer. The lines of a listing and the questions and answers of `ask` are made of them.
+#![tactic(auto)]
+
 mod digits;
 mod reading;
 mod writing;
@@ -21,21 +23,21 @@ const DASH: u8 = 45;
 pub const NUMBER_MOST: usize = 21;
 
 // A byte that was read, and the place after it: 0 where none stands there.
-#[derive(Drop)]
+#[derive(Clone, Copy)]
 pub struct ByteWord {
     pub value: u8,
     pub to: usize,
 }
 
 // A number that was read, and the place after it: 0 where none stands there.
-#[derive(Drop)]
+#[derive(Clone, Copy)]
 pub struct NumberWord {
     pub value: u64,
     pub to: usize,
 }
 
 // How many bytes were read, and the place after them: 0 where none stand there, and no `-` either.
-#[derive(Drop)]
+#[derive(Clone, Copy)]
 pub struct BytesWord {
     pub len: usize,
     pub to: usize,

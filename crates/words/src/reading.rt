@@ -17,7 +17,7 @@ const GREATEST_LAST: u64 = 5;
 
 // A number as far as it was read: 0 where 64 bits can't hold it, whether they can, and the place
 // after its digits.
-#[derive(Drop)]
+#[derive(Clone, Copy)]
 struct Digits {
     value: u64,
     fits: bool,
@@ -25,7 +25,7 @@ struct Digits {
 }
 
 // The same without the place.
-#[derive(Drop)]
+#[derive(Clone, Copy)]
 struct Sum {
     value: u64,
     fits: bool,
@@ -42,6 +42,7 @@ fn byte_at(s: &[u8], i: usize) -> u8
 }
 
 // Where the next word starts, after the one that ended at `at`.
+#[tactic(auto, unfolding(crate::specs::Reading::start_of))]
 fn start(s: &[u8], at: usize) -> usize
     ensures { (result ≡ start_of s.now at) × (result ≤ length s.now) }
 {
@@ -58,6 +59,7 @@ fn start(s: &[u8], at: usize) -> usize
 }
 
 // Whether all was read up to here, and the line ends here.
+#[tactic(auto, unfolding(crate::specs::Reading::is_end))]
 pub fn is_end(s: &[u8], at: usize) -> bool
     ensures { result ≡ is_end s.now at }
 {
@@ -84,6 +86,7 @@ fn starts_with(s: &[u8], from: usize, name: &[u8]) -> bool
 
 // The place after these letters at the front of the line. That the word ends there is seen by what is
 // read next.
+#[tactic(auto, unfolding(crate::specs::Reading::first_word))]
 pub fn read_first(s: &[u8], name: &[u8]) -> usize
     ensures { result ≡ first_word s.now name.now }
 {
@@ -141,6 +144,7 @@ fn has_next(n: u64, d: u64) -> bool
 }
 
 // A number with one digit more.
+#[tactic(auto, unfolding(crate::specs::Reading::with_digit))]
 fn with_digit(a: Sum, b: u8) -> Sum
     requires { is_digit b ≡ true }
     ensures { result ≡ with_digit a (b - 0x30) }
@@ -160,6 +164,7 @@ fn with_digit(a: Sum, b: u8) -> Sum
 }
 
 // The decimal digits that stand at a place.
+#[tactic(auto, unfolding(crate::specs::Reading::digits_at))]
 fn digits_at(s: &[u8], from: usize) -> Digits
     ensures { result ≡ digits_at s.now from }
 {
@@ -195,6 +200,7 @@ fn no_number() -> NumberWord
 }
 
 // A decimal number of any number of digits, if it is `most` or less.
+#[tactic(auto, unfolding(crate::specs::Reading::number_in))]
 pub fn read_number(s: &[u8], at: usize, most: u64) -> NumberWord
     ensures { result ≡ number_at s.now at most }
 {
@@ -235,6 +241,7 @@ fn no_bytes() -> BytesWord
 }
 
 // How many bytes so many hex digits are, `most` or fewer, and the place after them.
+#[tactic(auto, unfolding(crate::specs::Reading::pairs_in))]
 fn pairs_in(w: usize, n: usize, most: usize) -> BytesWord
     requires { w + n ≤ greatest }
     ensures { result ≡ pairs_in w n most }
@@ -252,6 +259,7 @@ fn pairs_in(w: usize, n: usize, most: usize) -> BytesWord
 }
 
 // How many bytes stand at a place, `most` or fewer, and the place after them.
+#[tactic(auto, unfolding(crate::specs::Reading::bytes_in))]
 fn bytes_at(s: &[u8], at: usize, most: usize) -> BytesWord
     ensures { result ≡ bytes_at s.now at most }
 {
@@ -267,6 +275,7 @@ fn bytes_at(s: &[u8], at: usize, most: usize) -> BytesWord
 }
 
 // Puts the bytes that stand at a place as hex digits at the front of a buffer.
+#[tactic(auto, unfolding(crate::specs::Reading::pairs))]
 fn decode(s: &[u8], from: usize, k: usize, out: &mut [u8])
     requires { (from + 2 * k ≤ length s.now) × (k ≤ length out.old) }
     ensures { out.new ≡ put 0 (pairs k (drop from s.now)) out.old }

@@ -71,8 +71,8 @@ fn write_text(out: &mut [u8], at: usize, s: &[u8]) -> usize
     requires { at + length s.now ≤ length out.old }
     ensures { Puts at s.now (length s.now) out.old result out.new }
 {
-    let n = bytes::copy(s, &mut out[at..]);
-    at + n
+    out[at..at + s.len()].copy_from_slice(s);
+    at + s.len()
 }
 
 // A text: as many bytes of room as it has.
