@@ -21,6 +21,7 @@ fn place_for(kb1: u8, n: usize) -> Place
 }
 
 // One place and no other: there if it is announced, for a length from 1 to the most that it holds.
+#[tactic(auto, unfolding(crate::specs::Build::only_in))]
 fn only_in(place: Place, announced: bool, n: usize, most: usize) -> Place
     ensures { result ≡ only_in place announced n most }
 {
@@ -81,6 +82,7 @@ fn build_no(p: Plan, n: usize, room: usize) -> u8
 }
 
 // Writes the addresses after the format byte, and says where the next byte goes.
+#[tactic(auto, unfolding(crate::specs::Layout::addresses_of, crate::specs::Layout::address_count))]
 fn put_addresses(form: Form, target: u8, source: u8, out: &mut [u8]) -> usize
     requires { 1 + address_count form ≤ length out.old }
     ensures { (result ≡ 1 + address_count form) × (out.new ≡ put 1 (addresses_of form target source) out.old) }
@@ -94,6 +96,7 @@ fn put_addresses(form: Form, target: u8, source: u8, out: &mut [u8]) -> usize
 }
 
 // Writes the extra length byte, if any, and says where the next byte goes.
+#[tactic(auto, unfolding(crate::specs::Layout::extra_of, crate::specs::Layout::extra_count))]
 fn put_extra(place: Place, n: u8, at: usize, out: &mut [u8]) -> usize
     requires { at + extra_count place ≤ length out.old }
     ensures { (result ≡ at + extra_count place) × (out.new ≡ put at (extra_of place n) out.old) }

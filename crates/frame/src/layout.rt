@@ -103,7 +103,7 @@ pub(crate) fn extra_count(place: Place) -> u8
 }
 
 // How many bytes stand before the data.
-#[tactic(auto, unfolding(crate::specs::Layout::head_size))]
+#[tactic(auto, using(crate::proofs::Sizes::address_le, crate::proofs::Sizes::extra_le), unfolding(crate::specs::Layout::head_size))]
 pub(crate) fn head_size(form: Form, place: Place) -> u8
     ensures { result ≡ head_size form place }
 {
@@ -136,7 +136,7 @@ pub(crate) fn is_nowhere(place: Place) -> bool
 }
 
 // The sum of all bytes, modulo 256.
-#[tactic(auto, unfolding(crate::specs::Layout::total, crate::specs::Layout::checksum_of))]
+#[tactic(auto, using(crate::proofs::Lists::total_take), unfolding(crate::specs::Layout::total, crate::specs::Layout::checksum_of))]
 pub(crate) fn checksum(s: &[u8]) -> u8
     ensures { result ≡ checksum_of s.now }
 {
