@@ -1,5 +1,5 @@
 -- Laws of a line out of a part. Assumes nothing.
-use Rattle.std.proofs.Common.{◌≡◌, ℕ, suc, ◌+◌, ◌-◌, ◌<◌, ◌≤◌, List, [], length, get_or, drop, arith, drop_of_length-le, drop-cons, eq-eqb, ne_eqb}
+use Rattle.std.proofs.Common.{◌≡◌, ℕ, suc, ◌+◌, ◌<◌, ◌≤◌, List, length, get_or, drop, arith, drop_of_length-le, drop-cons, eq-eqb, ne_eqb}
 use Rattle.lines.specs.Lines.{read_byte}
 use Rattle.lines.specs.Getting.{got_of, ended, cut_off}
 use Rattle.lines.specs.declared.Reading.{Reading}

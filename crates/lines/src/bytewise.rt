@@ -155,7 +155,7 @@ fn takes_digit(r: Reading, b: u8) -> bool
 }
 
 // A byte of the only time.
-#[tactic(auto, unfolding(crate::specs::Lines::time_read))]
+#[tactic(auto, unfolding(crate::specs::Lines::time_read, crate::specs::Lines::takes_digit))]
 fn read_time(r: Reading, b: u8) -> Reading
     ensures { result ≡ time_read r b }
 {
@@ -167,7 +167,7 @@ fn read_time(r: Reading, b: u8) -> Reading
 }
 
 // A byte of the first of two times, or the space after it.
-#[tactic(auto, unfolding(crate::specs::Lines::start_read))]
+#[tactic(auto, unfolding(crate::specs::Lines::start_read, crate::specs::Lines::takes_digit))]
 fn read_start(r: Reading, b: u8) -> Reading
     ensures { result ≡ start_read r b }
 {
@@ -181,7 +181,7 @@ fn read_start(r: Reading, b: u8) -> Reading
 }
 
 // A byte of the second.
-#[tactic(auto, unfolding(crate::specs::Lines::end_read))]
+#[tactic(auto, unfolding(crate::specs::Lines::end_read, crate::specs::Lines::takes_digit))]
 fn read_end(r: Reading, b: u8) -> Reading
     ensures { result ≡ end_read r b }
 {

@@ -36,6 +36,7 @@ fn cut_off(r: Reading, at: usize) -> Got
 }
 
 // The rest of a line, from a place of a part on: up to its line feed, or to the part's end.
+#[tactic(auto, using(crate::proofs::Parts::got_feed, crate::proofs::Parts::got_byte, crate::proofs::Parts::got_cut))]
 pub fn get_line(r: Reading, s: &[u8], at: usize) -> Got
     ensures { result ≡ got_of r (drop at s.now) at }
 {

@@ -32,6 +32,7 @@ fn wide(b: u8) -> u64
 }
 
 // Up to 13 digits.
+#[tactic(auto, using(crate::proofs::Laws::digits_stop, crate::proofs::Laws::digits_end, crate::proofs::Laws::no_digit))]
 fn digits(s: &[u8], at: usize) -> Span
     requires { at + 13 ≤ length s.now }
     ensures { result ≡ digits_at s.now 13 at 0 }
@@ -52,7 +53,7 @@ fn digits(s: &[u8], at: usize) -> Span
 }
 
 // The second time, and the line feed after it.
-#[tactic(auto, unfolding(crate::specs::Quick::second_at))]
+#[tactic(auto, using(crate::proofs::Laws::span_within), unfolding(crate::specs::Quick::second_at))]
 fn second(s: &[u8], at: usize, start: u64, side: Side, value: u8) -> Row
     requires { at + 14 ≤ length s.now }
     ensures { result ≡ second_at s.now at start side value }
@@ -78,7 +79,7 @@ fn second(s: &[u8], at: usize, start: u64, side: Side, value: u8) -> Row
 }
 
 // Two times.
-#[tactic(auto, unfolding(crate::specs::Quick::times_at))]
+#[tactic(auto, using(crate::proofs::Laws::span_within), unfolding(crate::specs::Quick::times_at))]
 fn times(s: &[u8], at: usize, side: Side, value: u8) -> Row
     requires { at + 28 ≤ length s.now }
     ensures { result ≡ times_at s.now at side value }

@@ -8,11 +8,9 @@ use lib.Dec.{eqb, leb}
 use lib.ListN.{drop}
 use borrow.Author.Tests.{le-leb, le-ltb, lt-ltb, eq-eqb, ne_eqb}
 use native.Mathlib.Omega.{arith}
-use Rattle.base.specs.Choice.{if◌then◌else◌}
 use Rattle.base.specs.Sums.{greatest}
 use Rattle.words.specs.Digits.{is_digit}
 use Rattle.words.specs.Reading.{start_of, run_of, number_by, held, digits_at, no_number, number_in, number_at}
-use Rattle.words.specs.declared.NumberWord.{NumberWord}
 
 taken_by : (w k n most : ℕ) → most ≤ greatest → 0 < w → 0 < k → n ≤ most → number_in w most (held n (w + k)) ≡ record { value = n; to = w + k }
 unfolding number_in

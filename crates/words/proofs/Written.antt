@@ -1,11 +1,11 @@
 -- Laws of texts written into a buffer: one after another, the room for them, and the two promises, one from the other. Assumes nothing.
 use Prim.Native.Nat.{ℕ, suc, ◌+◌, ◌-◌, ◌≤◌, ◌<◌}
-use mathlib.Core.Path.{◌≡◌, refl, sym, ◌∙◌, ap}
+use mathlib.Core.Path.{◌≡◌, refl, sym, ◌∙◌}
 use mathlib.Core.Bool.{Bool, true, false, not}
-use mathlib.Core.List.{List, [], ◌∷◌, ◌++◌, append_assoc, append-nil}
+use mathlib.Core.List.{List, [], ◌∷◌, ◌++◌, append_assoc}
 use lib.Dec.{leb}
-use lib.ListN.{length, take, drop, set, length-append, length-take, length-drop, length-set, take-append-drop, drop_of_length-le}
-use lib.Seq.{length-take-le, take_at, drop-append-add, drop-drop, set_split, take_all}
+use lib.ListN.{length, take, drop, set, length-append, length-take, length-drop, length-set, take-append-drop}
+use lib.Seq.{length-take-le, take_at, drop-append-add, drop-drop, set_split}
 use borrow.Rule.Slice.PartMut.{put_mid}
 use borrow.Author.Tests.{le-leb, lt-leb, leb-true, leb-false, not-true, not-false}
 use native.Mathlib.Omega.{arith}
@@ -96,24 +96,14 @@ number_puts at k n b out o1 h ek small e =
       kept = rw e (simp length-set lp);
     })
 
--- what `bytes::copy` into a part leaves
-pub copied : (at n : ℕ) (s out last : List ℕ) → n ≡ length s → at + length s ≤ length out → last ≡ take (length s) s ++ drop (length s) (take (length out - at) (drop at out))
-    → Puts at s (length s) out (at + n) (put_mid at (length out - at) out last)
+-- what a copy into the part from `at` on leaves
+pub copied : (at n : ℕ) (s out last : List ℕ) → n ≡ length s → at + length s ≤ length out → last ≡ s
+    → Puts at s (length s) out (at + length s) (put_mid at n out last)
 unfolding put
 copied at n s out last en h e =
-    let m : put_mid at (length out - at) out last ≡ take at out ++ (s ++ drop (at + length s) out) =
-    rw (
-      e,
-      take_all (length s) s (omega arith),
-      take_all (length out - at) (drop at out) (omega (arith, length-drop at out)),
-      drop-drop (length s) at out,
-      drop-drop (length out - at) at out,
-      append_assoc s (drop (at + length s) out) _,
-      drop_of_length-le out {i = at + (length out - at)} (omega arith),
-      append-nil (drop (at + length s) out),
-    ) in
+    let m : put_mid at n out last ≡ take at out ++ (s ++ drop (at + length s) out) = rw (e, en, drop-drop (length s) at out) in
     record {
-      place = ap (λ k. at + k) en;
+      place = refl;
       small = omega arith;
       memory = m;
       kept = rw m (simp (length-append, length-take, length-drop) (omega arith));

@@ -18,7 +18,7 @@ fn is_capital(b: u8) -> bool
 }
 
 // The value of a hex digit, 0 to 9 or A to F, and 16 of any other byte.
-#[tactic(auto, unfolding(crate::specs::Digits::hex_of))]
+#[tactic(auto, unfolding(crate::specs::Digits::hex_of, crate::specs::Digits::is_digit, crate::specs::Digits::is_capital))]
 pub fn hex(b: u8) -> u8
     ensures { result ≡ hex_of b }
 {

@@ -67,6 +67,7 @@ pub fn is_end(s: &[u8], at: usize) -> bool
 }
 
 // Whether the line has these letters from a place on.
+#[tactic(auto, using(crate::proofs::Runs::starts_on, crate::proofs::Runs::starts_wrong, crate::proofs::Runs::starts_short, crate::proofs::Runs::starts_whole))]
 fn starts_with(s: &[u8], from: usize, name: &[u8]) -> bool
     requires { from ≤ length s.now }
     ensures { result ≡ starts_with name.now (drop from s.now) }
@@ -97,6 +98,7 @@ pub fn read_first(s: &[u8], name: &[u8]) -> usize
 }
 
 // The place after these letters where the next word starts.
+#[tactic(auto, unfolding(crate::specs::Reading::word_at))]
 pub fn read_word(s: &[u8], at: usize, name: &[u8]) -> usize
     ensures { result ≡ word_at s.now at name.now }
 {
@@ -117,6 +119,7 @@ fn no_byte() -> ByteWord
 }
 
 // A byte, by two hex digits.
+#[tactic(auto, unfolding(crate::specs::Reading::byte_at, crate::specs::Reading::byte_in))]
 pub fn read_byte(s: &[u8], at: usize) -> ByteWord
     ensures { result ≡ byte_at s.now at }
 {
@@ -144,7 +147,7 @@ fn has_next(n: u64, d: u64) -> bool
 }
 
 // A number with one digit more.
-#[tactic(auto, unfolding(crate::specs::Reading::with_digit))]
+#[tactic(auto, unfolding(crate::specs::Reading::with_digit, crate::specs::Digits::is_digit))]
 fn with_digit(a: Sum, b: u8) -> Sum
     requires { is_digit b ≡ true }
     ensures { result ≡ with_digit a (b - 0x30) }
@@ -164,7 +167,7 @@ fn with_digit(a: Sum, b: u8) -> Sum
 }
 
 // The decimal digits that stand at a place.
-#[tactic(auto, unfolding(crate::specs::Reading::digits_at))]
+#[tactic(auto, using(crate::proofs::Runs::summed_stop, crate::proofs::Runs::summed_out), unfolding(crate::specs::Reading::digits_at))]
 fn digits_at(s: &[u8], from: usize) -> Digits
     ensures { result ≡ digits_at s.now from }
 {
@@ -200,7 +203,7 @@ fn no_number() -> NumberWord
 }
 
 // A decimal number of any number of digits, if it is `most` or less.
-#[tactic(auto, unfolding(crate::specs::Reading::number_in))]
+#[tactic(auto, unfolding(crate::specs::Reading::number_at, crate::specs::Reading::number_in))]
 pub fn read_number(s: &[u8], at: usize, most: u64) -> NumberWord
     ensures { result ≡ number_at s.now at most }
 {
@@ -219,6 +222,7 @@ pub fn read_number(s: &[u8], at: usize, most: u64) -> NumberWord
 }
 
 // How many hex digits stand at a place.
+#[tactic(auto, using(crate::proofs::Runs::run_on, crate::proofs::Runs::run_stop, crate::proofs::Runs::run_end))]
 fn hex_run(s: &[u8], from: usize) -> usize
     requires { from ≤ length s.now }
     ensures { (result ≡ run_of is_hex (drop from s.now)) × (from + result ≤ length s.now) }
@@ -259,7 +263,7 @@ fn pairs_in(w: usize, n: usize, most: usize) -> BytesWord
 }
 
 // How many bytes stand at a place, `most` or fewer, and the place after them.
-#[tactic(auto, unfolding(crate::specs::Reading::bytes_in))]
+#[tactic(auto, unfolding(crate::specs::Reading::bytes_at, crate::specs::Reading::bytes_in))]
 fn bytes_at(s: &[u8], at: usize, most: usize) -> BytesWord
     ensures { result ≡ bytes_at s.now at most }
 {
@@ -275,7 +279,7 @@ fn bytes_at(s: &[u8], at: usize, most: usize) -> BytesWord
 }
 
 // Puts the bytes that stand at a place as hex digits at the front of a buffer.
-#[tactic(auto, unfolding(crate::specs::Reading::pairs))]
+#[tactic(auto, using(crate::proofs::Written::put_nil, crate::proofs::Pairs::decoded_on), unfolding(crate::specs::Reading::pairs))]
 fn decode(s: &[u8], from: usize, k: usize, out: &mut [u8])
     requires { (from + 2 * k ≤ length s.now) × (k ≤ length out.old) }
     ensures { out.new ≡ put 0 (pairs k (drop from s.now)) out.old }

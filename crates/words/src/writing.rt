@@ -17,6 +17,7 @@ pub fn has_room(len: usize, at: usize, most: usize) -> bool
 }
 
 // How many decimal digits n has.
+#[tactic(auto, using(crate::proofs::Spelling::counted_end))]
 fn count_digits(n: u64) -> usize
     ensures { (result ≡ digit_count 19 n) × (result ≤ 20) }
 {
@@ -30,6 +31,7 @@ fn count_digits(n: u64) -> usize
 }
 
 // Writes the last k digits of n, from the right.
+#[tactic(auto, using(crate::proofs::Spelling::spelled_on))]
 fn spell(out: &mut [u8], at: usize, n: u64, k: usize)
     requires { at + k ≤ length out.old }
     ensures { out.new ≡ put at (digits_of k n) out.old }
@@ -95,6 +97,7 @@ pub fn put_byte(out: &mut [u8], at: usize, x: u8, behind: u8) -> usize
 }
 
 // Writes the hex digits of bytes, two for each, where there is room.
+#[tactic(auto, using(crate::proofs::Pairs::spelled_on, crate::proofs::Pairs::hex_none))]
 fn write_hex(out: &mut [u8], at: usize, s: &[u8])
     requires { at + 2 * length s.now ≤ length out.old }
     ensures { out.new ≡ put at (hex_text s.now) out.old }
