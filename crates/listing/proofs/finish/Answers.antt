@@ -1,0 +1,6 @@
+-- The input has ended. Assumes nothing.
+use Rattle.listing.proofs.Laws.{end_none, end_written}
+use Rattle.listing.proofs.finish.Goals as goal
+
+pub returns : goal.returns
+returns c = end_written _ _ _ _ _ _ _ c.if-out-lt-ENDING_MOST.false c.end_line-p.ensures c.held.ensures c.put_end.ensures
