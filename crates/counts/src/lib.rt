@@ -27,6 +27,7 @@ fn counts_with(c: Counts, a: Answer, e: Event) -> Counts
 
 // A step of a link with the counts that the host lends: the answer to the event, and the counts
 // brought up to date.
+#[tactic(auto, unfolding(link::specs::Stepping::step_of))]
 pub fn step(counts: &mut Counts, l: Link, e: Event) -> Answer
     ensures { Steps l counts.old e result counts.new }
 {

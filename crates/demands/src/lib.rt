@@ -1,3 +1,2 @@
 // The three demands as theorems: definitions and proofs only.
 #![tactic(auto)]
-

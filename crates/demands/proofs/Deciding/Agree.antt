@@ -50,16 +50,19 @@ module _ (s t : Machine) where
 
   pub front_whole : (es before : Log) (b : Event) → Begins (before ▷ b) es → Agree s t es → Agree s t (before ▷ b)
   unfolding Agree
-  front_whole es before b whole a = a
+  front_whole none before b g a = elim g [ ]
+  front_whole (es ▷ e) before b whole a = a
   front_whole (es ▷ e) before b (more g) a = front_whole es before b g a.0
 
   pub front : (es before : Log) (b : Event) → Begins (before ▷ b) es → Agree s t es → Agree s t before
   unfolding Agree
-  front es before b whole a = a.0
+  front none before b g a = elim g [ ]
+  front (es ▷ e) before b whole a = a.0
   front (es ▷ e) before b (more g) a = front es before b g a.0
 
   pub session_move : (es : Log) (k : Talk) → Agree s t es → Session s es k → Session t es k
   unfolding Agree
+  session_move none k a x = elim x [ ]
   session_move (es ▷ e) k a (opens {r = r} i n) = opens (subst (Among r) a.1 i) n
   session_move (es ▷ e) k a (lasts {t = j} z n) =
       subst (λ (rs : List Report). Session t (es ▷ e) (talk_after j (taken_of (es ▷ e)) rs)) (sym a.1)
@@ -111,6 +114,7 @@ module _ (s t : Machine) where
 
     pub starting_move : (es : Log) → Agree s t es → Starting s es → Starting t es
     unfolding Agree
+    starting_move none a x = elim x [ ]
     starting_move (es ▷ e) a (starts n x i w) =
         let q = until_same (taken_of es) e (agree_taken es a.0, next_agrees es e a.1) in
         starts n x (λ y. i (y.0, subst (λ (k : ℕ). e.start.0 < k) (sym q) y.1)) (λ y. w (y.0, subst (λ (k : ℕ). k ≤ e.start.0) (sym q) y.1, y.2))
@@ -187,6 +191,7 @@ module _ (s t : Machine) where
 
   pub speaks_move : (es : Log) (k : Talk) (b : Event) (bytes : List ℕ) → Agree s t es → Speaks s k b es bytes → Speaks t k b es bytes
   unfolding Agree
+  speaks_move none k b bytes a x = elim x [ ]
   speaks_move (es ▷ e) k b bytes a (begins m) = begins (opens_message es e k a.0 (near_agree es e k a) m)
   speaks_move (es ▷ e) k b bytes a (refused z n) = refused (speaks_move es k b bytes a.0 z) n
   speaks_move (es ▷ e) k b bytes a (waits z n t i) = waits (speaks_move es k b bytes a.0 z) n t i

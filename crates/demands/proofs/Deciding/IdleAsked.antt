@@ -51,6 +51,7 @@ counted_among (y ∷ ys) x =
 
 among_counted : (xs : List Report) (x : Report) → Among x xs → counts x ≡ true → Among x (counted xs)
 unfolding counted
+among_counted [] x i c = elim i [ ]
 among_counted (y ∷ ys) x first c = rw c first
 among_counted (y ∷ ys) x (later i) c =
     by_test (Among x) (counts y) {x = y ∷ counted ys} {y = counted ys} (λ _. later (among_counted ys x i c)) (λ _. among_counted ys x i c)
@@ -106,6 +107,8 @@ kin_asked p3min idle x y k =
 folded_kin : (p3min idle : Micros) (xs ys : List Report) → Alike Kin kin_rule xs ys → folded (asked_after p3min) idle xs ≡ folded (asked_after p3min) idle ys
 unfolding folded
 folded_kin p3min idle [] [] none = refl
+folded_kin p3min idle [] (y ∷ ys) l = elim l [ ]
+folded_kin p3min idle (x ∷ xs) [] l = elim l [ ]
 folded_kin p3min idle (x ∷ xs) (y ∷ ys) (more k r) =
     ap (λ (i : Micros). folded (asked_after p3min) i xs) (kin_asked p3min idle x y k) ∙ folded_kin p3min (asked_after p3min idle y) xs ys r
 

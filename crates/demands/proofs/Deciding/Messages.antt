@@ -70,7 +70,8 @@ module _ (B : Both) where
 -- ---- REPORT 2
 -- a byte's place in a history is fixed by how many bytes were heard before it
 place : (L p q : Log) (x y : Event) → Begins (p ▷ x) L → Begins (q ▷ y) L → ((p ▷ x) ≡ (q ▷ y)) ⊎ (Begins (p ▷ x) q ⊎ Begins (q ▷ y) p)
-place L p q x y whole whole = inl refl
+place none p q x y f g = elim f [ ]
+place (L ▷ z) p q x y whole whole = inl refl
 place (L ▷ z) p q x y whole (more g) = inr (inr g)
 place (L ▷ z) p q x y (more f) whole = inr (inl f)
 place (L ▷ z) p q x y (more f) (more g) = place L p q x y f g
@@ -98,7 +99,8 @@ same_place {L = L} x y f =
 
 bytes_front : (es before : Log) (b : Event) → Begins (before ▷ b) es → InBytes es → InBytes before
 unfolding InBytes
-bytes_front es before b whole x = x.0
+bytes_front none before b g x = elim g [ ]
+bytes_front (es ▷ e) before b whole x = x.0
 bytes_front (es ▷ e) before b (more g) x = bytes_front es before b g x.0
 
 byte_kind : (k : Kind) → is_byte k ≡ true → k ≡ Byte

@@ -22,7 +22,7 @@ split (later i) = inr i
 -- all that stand after a rule come after it
 above : {a : ℕ} (ys : List Report) (z : Report) → InOrder a ys → Among z ys → a < rule z
 above [] z u i = absurd (not_among i)
-above {a} (y ∷ ys) z (next k u) i = ⊎_elim (λ e. rw e k) (λ j. omega (arith, above ys z u j)) (split i)
+above {a} (y ∷ ys) z (next k u) i = ⊎_elim (λ e. rw e k) (λ j. omega (arith, above {a = rule y} ys z u j)) (split i)
 
 -- ---- TWO LISTS IN ORDER, of which each report of one has its like in the other, for a likeness that keeps the rule: they are alike one by one
 module _ (Like : Report → Report → Type 0) (like_rule : (x y : Report) → Like x y → rule x ≡ rule y) where
@@ -83,6 +83,8 @@ whole x y l f i = record { first = f i; bytes = l.bytes i; time = l.time i; numb
 
 in_turn : (n : ℕ) (xs ys : List Report) → Alike Like like_rule xs ys → InTurn n xs → InTurn n ys → xs ≡ ys
 in_turn n [] [] none s t = refl
+in_turn n [] (y ∷ ys) l s t = elim l [ ]
+in_turn n (x ∷ xs) [] l s t = elim l [ ]
 in_turn n (x ∷ xs) (y ∷ ys) (more l r) (InTurn.behind p s) (InTurn.behind q t) =
     ap (λ (z : Report). z ∷ xs) (whole x y l (p ∙ sym q))
     ∙ ap (λ (zs : List Report). y ∷ zs) (in_turn (n + x.bytes) xs ys r s (subst (λ (k : ℕ). InTurn (n + k) ys) (sym l.bytes) t))

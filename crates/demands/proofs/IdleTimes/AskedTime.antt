@@ -67,6 +67,7 @@ record Started (a : Event) (before : Log) : Type 0 where
 
 start_at : {a : Event} {before log bs : Log} → Whole log → InBytes log → Since a before log bs → Started a before
 unfolding InBytes
+start_at {a = a} {before = before} {bs = bs} empty i x = elim x [ ]
 start_at (more w q s) i here = record { number = q; whole = s; bytes = i.0 }
 start_at (more w q s) i (tick k z) = start_at w i.0 z
 start_at (more w q s) i (byte k z) = start_at w i.0 z

@@ -166,6 +166,7 @@ reply_windows_lem request seven pair q a m w k c = by_asked request (kept_asks r
 
     by_asked : (request : Request) → Asks q request → request ≡ request_by q
         → windows_after request m pair seven w ≡ (if resets q a then set_of pair else if retimes q a then if_allowed (decoded_of (codes_in q)) w else w)
+    by_asked Stopped x e = elim x [ ]
     by_asked Stop (stop s o n) e = rw (o, n) (if_same (eqb m.first 0xC2))
     by_asked OwnTiming (own s o n) e = rw (o, n, c.own)
     by_asked NewTiming (new s o n) e = rw (o, n, c.new, k.codes_are (sym e))
@@ -187,6 +188,7 @@ reply_request request seven q a m k c z = by_asked request (kept_asks request se
 
     by_asked : (request : Request) → Asks q request → Kept request seven q → stops q a ≡ false
         → Kept (request_after request m) seven (if stops q a || resets q a || retimes q a then [] else q)
+    by_asked Stopped x k z = elim x [ ]
     by_asked Stop (stop s o n) k z = rw (z, o, n, c.first, rw s at z) k
     by_asked OwnTiming (own s o n) k z = rw (s, o, n, c.own) (own_spent (same a (0xC3 ∷ 0x01 ∷ [])) k)
     by_asked NewTiming (new s o n) k z = rw (s, o, n, c.new) (new_spent (same a (0xC3 ∷ 0x03 ∷ [])) k)
@@ -207,6 +209,7 @@ reply_stops request seven q a m k c = by_asked request (kept_asks request seven 
     others false request e = e
 
     by_asked : (request : Request) → Asks q request → is_stopped (request_after request m) ≡ stops q a
+    by_asked Stopped x = elim x [ ]
     by_asked Stop (stop s o n) = rw (s, c.first) (stopped (eqb (get_or a 0 0) 0xC2))
     by_asked OwnTiming (own s o n) = rw s (others (is_exactly m (0xC3 ∷ 0x01 ∷ [])) OwnTiming refl)
     by_asked NewTiming (new s o n) = rw s (others (is_exactly m (0xC3 ∷ 0x03 ∷ [])) NewTiming refl)
@@ -312,6 +315,7 @@ told_carries m d t some = record {
 }
   where
     new_length : (request : Request) → Asks d request → request ≡ NewTiming → length d ≡ 7
+    new_length Stopped x e = elim x [ ]
     new_length Stop (stop s o n) e = cc
     new_length OwnTiming (own s o n) e = cc
     new_length NewTiming (new s o n) e = (asks_seven d n).0
