@@ -1,5 +1,5 @@
 -- The input has ended. Assumes nothing.
-use Rattle.listing.proofs.Laws.{end_none, end_written}
+use Rattle.listing.proofs.Laws.{end_written}
 use Rattle.listing.proofs.finish.Goals as goal
 
 pub returns : goal.returns

@@ -1,6 +1,6 @@
 -- What `put_head` leaves: the format byte holds its two parts, and the parts of the head stand one after another (`head_written`).
 -- Assumes nothing.
-use Rattle.std.proofs.Common.{◌≡◌, ℕ, ◌+◌, ap, ◌∙◌, arith}
+use Rattle.std.proofs.Common.{ℕ, ◌+◌, ap, ◌∙◌, arith}
 use Rattle.frame.specs.Layout.{extra_count, head_size}
 use Rattle.frame.proofs.Sizes.{top_le, low_le}
 use Rattle.frame.proofs.Writing.{head_written}

@@ -1,5 +1,5 @@
 -- What `contents` leaves: what `read` names lies within the slice. Assumes nothing.
-use Rattle.std.proofs.Common.{◌+◌, ◌≤◌, length, sym, subst, arith}
+use Rattle.std.proofs.Common.{sym, subst, arith}
 use Rattle.frame.proofs.Within.{Within, read_within}
 use Rattle.frame.proofs.reader.contents.Goals as goal
 

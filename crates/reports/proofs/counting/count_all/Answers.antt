@@ -1,5 +1,5 @@
 -- `reports::counting::count_all` meets its contract: at each return, as many reports are counted as there are. Assumes nothing.
-use Rattle.std.proofs.Common.{arith, refl}
+use Rattle.std.proofs.Common.{arith}
 use Rattle.reports.specs.Counting.{counted_all}
 use Rattle.reports.proofs.Places.{listed_first, listed_all}
 use Rattle.reports.proofs.counting.count_all.Goals as goal
