@@ -1,6 +1,5 @@
 -- DEMAND 3 HOLDS of our link. Its statements are in specs/DemandThree.antt; the work is in the files cited here.
 -- Assumes nothing.
-use Prim.Native.Nat.{◌-◌}
 use Rattle.demands.proofs.Accounts.Accounted as accounting
 use Rattle.demands.proofs.Histories.LentCounts as lending
 use Rattle.demands.specs.DemandThree.{DemandThree}
