@@ -1,7 +1,6 @@
 -- DEMAND 1 HOLDS of our link. Its statements are in specs/DemandOne.antt; the work is in the files cited here.
 -- Assumes nothing.
 use mathlib.Core.Path.{◌≡◌}
-use Rattle.base.specs.Numbers.{taken}
 use Rattle.demands.specs.Histories.{after}
 use Rattle.demands.proofs.Numbers.Refusing as refusing
 use Rattle.demands.proofs.WrongLinks.Computed.{retiming, computed}

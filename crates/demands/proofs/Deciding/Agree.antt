@@ -2,7 +2,7 @@
 -- initializations, first bytes, messages. Assumes nothing.
 use Prim.Native.Nat.{ℕ, ◌+◌, ◌-◌, ◌≤◌, ◌<◌}
 use mathlib.Core.List.{List, ◌++◌}
-use mathlib.Core.Logic.{◌⊎◌, ⊎_elim, inl, inr}
+use mathlib.Core.Logic.{⊎_elim, inl, inr}
 use mathlib.Core.Path.{◌≡◌, refl, sym, ap, ◌∙◌, subst}
 use lib.Dec.{eqb}
 use lib.ListN.{length}
@@ -15,7 +15,7 @@ use Rattle.events.specs.declared.Event.{Event}
 use Rattle.reports.specs.declared.Report.{Report}
 use Rattle.demands.specs.Logs.{Log, none, ◌▷◌, mark_of, heard_in, number_after, taken_of, Begins, whole, more, last_side, bytes_of}
 use Rattle.demands.specs.Refusals.{Not}
-use Rattle.demands.specs.Histories.{Machine, reports_to, reports_of, folded, Says, Among, is_among, first}
+use Rattle.demands.specs.Histories.{Machine, reports_to, reports_of, folded, Says, Among, is_among}
 use Rattle.demands.specs.Accounts.{named_in, held_in}
 use Rattle.demands.specs.Sessions.{Talk, in_force, talk_after, Session, opens, lasts, OpensIn, EarlyAt, StrayAt, gap_before, IdleOver, Early, Stray, reply_at}
 use Rattle.demands.specs.Idle.{latest_after, latest_talk, p3min_in, idle_after, is_drop, idle_in, asked_after, idle_asked, idle_until}

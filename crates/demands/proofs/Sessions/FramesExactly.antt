@@ -47,7 +47,7 @@ use Rattle.link.specs.declared.Link.{Link}
 use Rattle.link.specs.declared.Answer.{Answer}
 use Rattle.link.specs.Telling.{tells, passed_tells, byte_tells, acted_tells, handled_tells}
 use Rattle.link.proofs.Four.{four_enough}
-use Rattle.demands.specs.Logs.{Log, none, ◌▷◌, values_of, heard_in, number_after, taken_of, InBytes, Begins, whole, more}
+use Rattle.demands.specs.Logs.{Log, ◌▷◌, values_of, heard_in, number_after, taken_of, InBytes, Begins, whole, more}
 use Rattle.demands.specs.Editions.{of_car, of_quick_car, is_link_pair, car_fault, is_frame, ends_itself}
 use Rattle.demands.specs.Histories.{after, reports_to, is_among, Among, first}
 use Rattle.demands.specs.Accounts.{named_by}
