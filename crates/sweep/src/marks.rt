@@ -1,6 +1,6 @@
 // Digests, made-up numbers and printed lines.
 use crate::Tally;
-use libc::STDOUT_FILENO;
+use std::io;
 
 // A digest with one number more.
 pub(crate) fn mix(d: u32, x: u32) -> u32 {
@@ -44,11 +44,9 @@ pub(crate) fn below(seed: u32, n: u32) -> u32 {
 }
 
 // A line: what is counted, and the count.
-fn line(what: &[u8], n: u64) {
-    io::write_all(STDOUT_FILENO, what);
-    io::write_all(STDOUT_FILENO, b": ");
-    io::print_decimal(STDOUT_FILENO, n);
-    io::write_all(STDOUT_FILENO, b"\n");
+fn line(rt: &impl Print, what: &[u8], n: u64) -> io::Result<()> {
+    rt.write_all(what)?;
+    println!(rt; ": {n}")
 }
 
 fn counted(n: u32, more: bool) -> u32 {
@@ -68,10 +66,10 @@ pub(crate) fn tally(t: Tally, digest: u32, taken: bool, back: bool) -> Tally {
 }
 
 // A tally's three lines.
-pub(crate) fn print_tally(what: &[u8], t: Tally) {
-    io::write_all(STDOUT_FILENO, what);
-    io::write_all(STDOUT_FILENO, b"\n");
-    line(b"  taken", t.taken as u64);
-    line(b"  came back", t.back as u64);
-    line(b"  digest", t.digest as u64);
+pub(crate) fn print_tally(rt: &impl Print, what: &[u8], t: Tally) -> io::Result<()> {
+    rt.write_all(what)?;
+    rt.write_all(b"\n")?;
+    line(rt, b"  taken", t.taken as u64)?;
+    line(rt, b"  came back", t.back as u64)?;
+    line(rt, b"  digest", t.digest as u64)
 }
