@@ -66,10 +66,8 @@ fn run(kind: u8, n: u32) -> Tally {
         taken: 0,
         back: 0,
     };
-    let mut i: u32 = 0;
-    while i < n {
+    for i in 0..n {
         t = case(kind, t, i);
-        i += 1;
     }
     t
 }

@@ -22,10 +22,8 @@ pub(crate) fn wide(x: u8) -> u32 {
 // A digest with all bytes of a slice more.
 pub(crate) fn mix_all(d: u32, s: &[u8]) -> u32 {
     let mut sum = d;
-    let mut i = 0;
-    while i < s.len() {
-        sum = mix(sum, wide(s[i]));
-        i += 1;
+    for b in s {
+        sum = mix(sum, wide(*b));
     }
     sum
 }
