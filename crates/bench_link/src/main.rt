@@ -120,13 +120,11 @@ fn block(
 ) -> io::Result<Session> {
     let mut t = s;
     let mut i = from % 15;
-    let mut left = n % 16;
     let mut start = at % 1_000_000;
-    while 0 < left {
+    for _ in 0..n % 16 {
         t = hear(rt, t, event(0x42, side, value(i), start, start + 960))?;
         start = (start + 960 + gap % 1_000_000) % 1_000_000;
         i = (i + 1) % 15;
-        left -= 1;
     }
     Ok(t)
 }
