@@ -3,18 +3,24 @@
 // has read and 64 KiB of what it will write.
 #![tactic(auto)]
 
-ghost use Rattle.io.specs.Counts.{IsPrefixLen};
+ghost use Rattle.std.specs.Prelude.{◌≤◌, length};
 
-use libc::{STDIN_FILENO, STDOUT_FILENO};
+use failing::fail;
+use std::env::{Env, FillError};
+use std::io::Read;
 
+mod failing;
 mod lent;
 mod questions;
+
+// How many bytes are read at a time, and the most that wait to be written.
+const LARGE: usize = 65_536;
 
 // The most bytes of an answer, its line feed among them: a question that has longer ones raises it.
 const ANSWER_MOST: usize = 600;
 
 // Where more bytes of answers wait, there might be no room for one more.
-const FULL: usize = 65_536 - ANSWER_MOST;
+const FULL: usize = LARGE - ANSWER_MOST;
 
 // How far it is: how many bytes of the line at hand were heard (one more than it may have, where it is
 // too long), how many bytes of answers wait, and whether all before them went out.
@@ -27,7 +33,7 @@ struct Asked {
 
 // So many bytes of a buffer, or all of them.
 fn within(n: usize, s: &[u8]) -> usize
-    ensures { IsPrefixLen result s.now }
+    ensures { result ≤ length s.now }
 {
     if n <= s.len() {
         return n;
@@ -36,13 +42,15 @@ fn within(n: usize, s: &[u8]) -> usize
 }
 
 // Writes the front of a buffer to standard output, and answers whether all went out.
-fn send(out: &[u8], waiting: usize) -> bool {
+fn send(rt: &(impl Print + Eprint + AllocGlobal), out: &[u8], waiting: usize) -> bool {
     let n = within(waiting, out);
-    let is_sent = io::write_all(STDOUT_FILENO, &out[..n]);
-    if !is_sent {
-        os::fail(b"ask: standard output");
+    match rt.write_all(&out[..n]) {
+        Ok(()) => true,
+        Err(error) => {
+            fail(rt, "ask: standard output", &error);
+            false
+        }
     }
-    is_sent
 }
 
 // One byte more of the line at hand.
@@ -63,7 +71,13 @@ fn reply(line: &[u8], heard: usize, out: &mut [u8], at: usize) -> usize {
 }
 
 // One byte more of the input: of a line, or the end of one, which is answered.
-fn hear(b: u8, a: Asked, line: &mut [u8], out: &mut [u8]) -> Asked {
+fn hear(
+    rt: &(impl Print + Eprint + AllocGlobal),
+    b: u8,
+    a: Asked,
+    line: &mut [u8],
+    out: &mut [u8],
+) -> Asked {
     if b != words::LINE_FEED {
         return Asked {
             heard: keep(line, a.heard, b),
@@ -82,102 +96,114 @@ fn hear(b: u8, a: Asked, line: &mut [u8], out: &mut [u8]) -> Asked {
     Asked {
         heard: 0,
         waiting: 0,
-        whole: send(out, n),
+        whole: send(rt, out, n),
     }
 }
 
 // A part of the input, byte after byte, as long as answers go out.
-fn hear_part(part: &[u8], heard: usize, line: &mut [u8], out: &mut [u8]) -> Asked {
+fn hear_part(
+    rt: &(impl Print + Eprint + AllocGlobal),
+    part: &[u8],
+    heard: usize,
+    line: &mut [u8],
+    out: &mut [u8],
+) -> Asked {
     let mut a = Asked {
         heard: heard,
         waiting: 0,
         whole: true,
     };
-    let mut i = 0;
-    while i < part.len() {
-        let b = part[i];
-        a = hear(b, a, line, out);
+    for b in part {
+        a = hear(rt, *b, a, line, out);
         let whole = a.whole;
         if !whole {
             return a;
         }
-        i += 1;
     }
     a
 }
 
 // The input has ended: what is held of a last line is a line too.
-fn finish(heard: usize, line: &[u8], out: &mut [u8]) {
+fn finish(rt: &(impl Print + Eprint + AllocGlobal), heard: usize, line: &[u8], out: &mut [u8]) {
     if 0 < heard {
         let n = reply(line, heard, out, 0);
-        send(out, n);
+        send(rt, out, n);
     }
 }
 
 // Answers one read after another, each before the next. A proved loop has to end, and nothing says that
-// an input does: so it counts its turns down from a number that no run uses up.
-fn ask_all(buf: &mut [u8], line: &mut [u8], out: &mut [u8]) {
+// an input does: so it has a number of turns that no run uses up.
+fn ask_all(
+    rt: &(impl Print + Eprint + AllocGlobal),
+    input: &mut impl Read,
+    buf: &mut [u8],
+    line: &mut [u8],
+    out: &mut [u8],
+) {
     let mut heard = 0;
-    let mut turns = u64::MAX;
-    while 0 < turns {
-        let got = libc::read(STDIN_FILENO, buf);
-        if got < 0 {
-            os::fail(b"ask: the input");
-            return;
-        }
-        let n = io::count(got, buf);
+    for _ in 0..u64::MAX {
+        let n = match input.read(buf) {
+            Ok(n) => n,
+            Err(error) => {
+                fail(rt, "ask: the input", &error);
+                return;
+            }
+        };
         if n == 0 {
-            finish(heard, line, out);
+            finish(rt, heard, line, out);
             return;
         }
-        let a = hear_part(&buf[..n], heard, line, out);
+        let a = hear_part(rt, &buf[..n], heard, line, out);
         let whole = a.whole;
         if !whole {
             return;
         }
-        let is_sent = send(out, a.waiting);
+        let is_sent = send(rt, out, a.waiting);
         if !is_sent {
             return;
         }
         heard = a.heard;
-        turns -= 1;
     }
+}
+
+// Whether the command line has an argument of this number.
+fn has_argument(rt: &impl Env, i: usize) -> bool {
+    !matches!(rt.arg(i, &mut []), Err(FillError::NotPresent))
 }
 
 // One argument more of the command line.
-fn keep_word(line: &mut [u8], heard: usize, i: usize) -> usize {
+fn keep_word(rt: &impl Env, line: &mut [u8], heard: usize, i: usize) -> usize {
     if line.len() < heard {
         return heard;
     }
-    let n = os::arg(i, &mut line[heard..]);
-    if os::errno() != 0 {
-        return line.len() + 1;
+    match rt.arg(i, &mut line[heard..]) {
+        Ok(n) => heard + n,
+        Err(_) => line.len() + 1,
     }
-    heard + n
 }
 
 // The arguments as a line, with a space between two.
-fn gather(line: &mut [u8]) -> usize {
-    let count = os::arg_count();
-    let mut heard = keep_word(line, 0, 1);
-    let mut i = 2;
-    while i < count {
+fn gather(rt: &impl Env, line: &mut [u8]) -> usize {
+    let mut heard = keep_word(rt, line, 0, 1);
+    for i in 2..usize::MAX {
+        if !has_argument(rt, i) {
+            return heard;
+        }
         let spaced = keep(line, heard, words::SPACE);
-        heard = keep_word(line, spaced, i);
-        i += 1;
+        heard = keep_word(rt, line, spaced, i);
     }
     heard
 }
 
-fn main() {
+fn main(rt: HostRuntime) {
     let mut line = lent::line();
-    let mut out = io::large_buffer();
-    if 1 < os::arg_count() {
-        let heard = gather(&mut line);
+    let mut out = [0u8; LARGE];
+    if has_argument(&rt, 1) {
+        let heard = gather(&rt, &mut line);
         let n = reply(&line, heard, &mut out, 0);
-        send(&out, n);
+        send(&rt, &out, n);
         return;
     }
-    let mut buf = io::large_buffer();
-    ask_all(&mut buf, &mut line, &mut out);
+    let mut buf = [0u8; LARGE];
+    ask_all(&rt, &mut rt.stdin(), &mut buf, &mut line, &mut out);
 }

@@ -3,9 +3,9 @@
 #![tactic(auto)]
 
 use events::Event;
-use libc::STDOUT_FILENO;
 use link::Link;
 use reports::{Counts, Report, Reports};
+use std::io;
 use units::Micros;
 
 // A link, with the counts that it is lent.
@@ -32,50 +32,50 @@ fn event(kind: u8, side: u8, value: u8, start: u64, end: u64) -> Event {
 }
 
 // A number after a space.
-fn print_next(n: u64) {
-    io::write_all(STDOUT_FILENO, b" ");
-    io::print_decimal(STDOUT_FILENO, n);
+fn print_next(rt: &impl Print, n: u64) -> io::Result<()> {
+    print!(rt; " {n}")
 }
 
-fn print_report(x: Report) {
+fn print_report(rt: &impl Print, x: Report) -> io::Result<()> {
     let t = x.time;
-    io::write_all(STDOUT_FILENO, b" ");
-    print_next(x.number as u64);
-    print_next(x.reason as u64);
-    print_next(x.first);
-    print_next(x.bytes);
-    print_next(t.0);
-    io::write_all(STDOUT_FILENO, b"\n");
+    print!(rt; " ")?;
+    print_next(rt, x.number as u64)?;
+    print_next(rt, x.reason as u64)?;
+    print_next(rt, x.first)?;
+    print_next(rt, x.bytes)?;
+    print_next(rt, t.0)?;
+    println!(rt; "")
 }
 
-fn print_reports(rs: Reports) {
+fn print_reports(rt: &impl Print, rs: Reports) -> io::Result<()> {
     let a = rs.a;
     let b = rs.b;
     let c = rs.c;
     let d = rs.d;
     if 1 <= rs.n {
-        print_report(a);
+        print_report(rt, a)?;
     }
     if 2 <= rs.n {
-        print_report(b);
+        print_report(rt, b)?;
     }
     if 3 <= rs.n {
-        print_report(c);
+        print_report(rt, c)?;
     }
     if 4 <= rs.n {
-        print_report(d);
+        print_report(rt, d)?;
     }
+    Ok(())
 }
 
 // One event more.
-fn hear(s: Session, e: Event) -> Session {
+fn hear(rt: &impl Print, s: Session, e: Event) -> io::Result<Session> {
     let t = link::step(s.link, s.counts, e);
     let a = t.answer;
     let c = t.counts;
     let l = a.link;
     let rs = a.reports;
-    print_reports(rs);
-    Session { link: l, counts: c }
+    print_reports(rt, rs)?;
+    Ok(Session { link: l, counts: c })
 }
 
 fn fresh() -> Session {
@@ -86,22 +86,19 @@ fn fresh() -> Session {
 }
 
 // A fresh link and an address at a time, which takes two seconds.
-fn address(at: u64) -> Session {
+fn address(rt: &impl Print, at: u64) -> io::Result<Session> {
     let start = at % 1_000_000;
-    io::write_all(STDOUT_FILENO, b"address at");
-    print_next(start);
-    io::write_all(STDOUT_FILENO, b"\n");
-    hear(fresh(), event(0x41, 0, 0x33, start, start + 2_000_000))
+    println!(rt; "address at {start}")?;
+    hear(rt, fresh(), event(0x41, 0, 0x33, start, start + 2_000_000))
 }
 
 // The unit's 55 so long after an address that was taken.
-fn sync(gap: u64) {
-    let s = address(300_000);
+fn sync(rt: &impl Print, gap: u64) -> io::Result<()> {
+    let s = address(rt, 300_000)?;
     let start = 2_300_000 + gap % 1_000_000;
-    io::write_all(STDOUT_FILENO, b"sync after");
-    print_next(gap);
-    io::write_all(STDOUT_FILENO, b"\n");
-    hear(s, event(0x42, 0x65, 0x55, start, start + 960));
+    println!(rt; "sync after {gap}")?;
+    hear(rt, s, event(0x42, 0x65, 0x55, start, start + 960))?;
+    Ok(())
 }
 
 fn value(i: usize) -> u8 {
@@ -112,51 +109,57 @@ fn value(i: usize) -> u8 {
 }
 
 // So many bytes of the example from an index on: their side, the start of the first, the gap between.
-fn block(s: Session, side: u8, from: usize, n: usize, at: u64, gap: u64) -> Session {
+fn block(
+    rt: &impl Print,
+    s: Session,
+    side: u8,
+    from: usize,
+    n: usize,
+    at: u64,
+    gap: u64,
+) -> io::Result<Session> {
     let mut t = s;
     let mut i = from % 15;
-    let mut left = n % 16;
     let mut start = at % 1_000_000;
-    while 0 < left {
-        t = hear(t, event(0x42, side, value(i), start, start + 960));
+    for _ in 0..n % 16 {
+        t = hear(rt, t, event(0x42, side, value(i), start, start + 960))?;
         start = (start + 960 + gap % 1_000_000) % 1_000_000;
         i = (i + 1) % 15;
-        left -= 1;
     }
-    t
+    Ok(t)
 }
 
 // The seven counts, and the bytes held.
-fn print_end(s: Session) {
+fn print_end(rt: &impl Print, s: Session) -> io::Result<()> {
     let c = s.counts;
     let l = s.link;
-    io::write_all(STDOUT_FILENO, b"counts");
-    print_next(c.heard);
-    print_next(c.framed);
-    print_next(c.damaged);
-    print_next(c.started);
-    print_next(c.outside);
-    print_next(c.frames);
-    print_next(c.damages);
-    print_next(base::less(l.heard, l.named));
-    io::write_all(STDOUT_FILENO, b"\n");
+    print!(rt; "counts")?;
+    print_next(rt, c.heard)?;
+    print_next(rt, c.framed)?;
+    print_next(rt, c.damaged)?;
+    print_next(rt, c.started)?;
+    print_next(rt, c.outside)?;
+    print_next(rt, c.frames)?;
+    print_next(rt, c.damages)?;
+    print_next(rt, base::less(l.heard, l.named))?;
+    println!(rt; "")
 }
 
-fn example() {
-    io::write_all(STDOUT_FILENO, b"the example of the listing\n");
-    let woken = hear(fresh(), event(0x57, 0, 0, 300_000, 325_000));
-    let asked = block(woken, 0x74, 0, 5, 350_000, 5_000);
-    let connected = block(asked, 0x65, 5, 7, 404_800, 0);
-    let framed = block(connected, 0x74, 12, 3, 466_520, 5_000);
-    print_end(hear(framed, event(0x54, 0, 0, 529_401, 529_401)));
+fn example(rt: &impl Print) -> io::Result<()> {
+    println!(rt; "the example of the listing")?;
+    let woken = hear(rt, fresh(), event(0x57, 0, 0, 300_000, 325_000))?;
+    let asked = block(rt, woken, 0x74, 0, 5, 350_000, 5_000)?;
+    let connected = block(rt, asked, 0x65, 5, 7, 404_800, 0)?;
+    let framed = block(rt, connected, 0x74, 12, 3, 466_520, 5_000)?;
+    print_end(rt, hear(rt, framed, event(0x54, 0, 0, 529_401, 529_401))?)
 }
 
-fn main() {
-    address(299_999);
-    address(300_000);
-    sync(59_999);
-    sync(60_000);
-    sync(300_000);
-    sync(300_001);
-    example();
+fn main(rt: HostRuntime) -> io::Result<()> {
+    address(&rt, 299_999)?;
+    address(&rt, 300_000)?;
+    sync(&rt, 59_999)?;
+    sync(&rt, 60_000)?;
+    sync(&rt, 300_000)?;
+    sync(&rt, 300_001)?;
+    example(&rt)
 }

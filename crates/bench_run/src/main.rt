@@ -1,9 +1,9 @@
 // Runs the values on the bench that are to be run, and prints what came beside what should.
 #![tactic(auto)]
 
-ghost use Rattle.std.specs.Prelude.{◌≤◌};
+ghost use Rattle.std.specs.Prelude.{◌≤◌, IfOk};
 
-use libc::STDOUT_FILENO;
+use std::io;
 
 // An answer of building: its number, its length, and the first four bytes of the buffer.
 #[derive(Clone, Copy)]
@@ -26,23 +26,22 @@ fn digit(n: u8) -> u8 {
     55 + n % 16
 }
 
-fn print_byte(x: u8) {
+fn print_byte(rt: &impl Print, x: u8) -> io::Result<()> {
     let text = [digit(x / 16), digit(x)];
-    io::write_all(STDOUT_FILENO, &text);
+    rt.write_all(&text)
 }
 
-fn print_answer(a: Answer) {
-    io::print_decimal(STDOUT_FILENO, a.no as u64);
-    io::write_all(STDOUT_FILENO, b" ");
-    io::print_decimal(STDOUT_FILENO, a.len as u64);
-    io::write_all(STDOUT_FILENO, b" ");
-    print_byte(a.first);
-    io::write_all(STDOUT_FILENO, b" ");
-    print_byte(a.second);
-    io::write_all(STDOUT_FILENO, b" ");
-    print_byte(a.third);
-    io::write_all(STDOUT_FILENO, b" ");
-    print_byte(a.fourth);
+fn print_answer(rt: &impl Print, a: Answer) -> io::Result<()> {
+    let no = a.no;
+    let len = a.len;
+    print!(rt; "{no} {len} ")?;
+    print_byte(rt, a.first)?;
+    print!(rt; " ")?;
+    print_byte(rt, a.second)?;
+    print!(rt; " ")?;
+    print_byte(rt, a.third)?;
+    print!(rt; " ")?;
+    print_byte(rt, a.fourth)
 }
 
 fn same_answer(a: Answer, b: Answer) -> bool {
@@ -89,25 +88,22 @@ fn built(choice: u8, kb1: u8, n: usize) -> Answer {
 }
 
 // Runs one value and prints its line: 1 where it is right, else 0.
-fn run(choice: u8, kb1: u8, n: usize, want: Answer) -> u64
-    ensures { result ≤ 1 }
+fn run(rt: &impl Print, choice: u8, kb1: u8, n: usize, want: Answer) -> io::Result<u64>
+    ensures { IfOk result (λ right. right ≤ 1) }
 {
     let got = built(choice, kb1, n);
-    io::print_decimal(STDOUT_FILENO, n as u64);
-    io::write_all(STDOUT_FILENO, b" bytes under ");
-    print_byte(kb1);
-    io::write_all(STDOUT_FILENO, b" 8F in form 1 by choice ");
-    io::print_decimal(STDOUT_FILENO, choice as u64);
-    io::write_all(STDOUT_FILENO, b": ");
-    print_answer(got);
-    io::write_all(STDOUT_FILENO, b", should be ");
-    print_answer(want);
+    print!(rt; "{n} bytes under ")?;
+    print_byte(rt, kb1)?;
+    print!(rt; " 8F in form 1 by choice {choice}: ")?;
+    print_answer(rt, got)?;
+    print!(rt; ", should be ")?;
+    print_answer(rt, want)?;
     if same_answer(got, want) {
-        io::write_all(STDOUT_FILENO, b": right\n");
-        return 1;
+        println!(rt; ": right")?;
+        return Ok(1);
     }
-    io::write_all(STDOUT_FILENO, b": WRONG\n");
-    0
+    println!(rt; ": WRONG")?;
+    Ok(0)
 }
 
 // The answer that is expected: 0, a length and four first bytes.
@@ -135,41 +131,56 @@ fn refused(no: u8) -> Answer {
 }
 
 // The values of document 01: how many are right, of 3.
-fn run_shortest() -> u64 {
-    let a = run(frame::SHORTEST, 0xE9, 63, taken(67, 0xBF, 0x11, 0xF1, 7));
-    let b = run(frame::SHORTEST, 0xE9, 64, refused(7));
-    let c = run(frame::SHORTEST, 0xEF, 64, taken(69, 0x80, 0x11, 0xF1, 0x40));
-    a + b + c
+fn run_shortest(rt: &impl Print) -> io::Result<u64> {
+    let a = run(
+        rt,
+        frame::SHORTEST,
+        0xE9,
+        63,
+        taken(67, 0xBF, 0x11, 0xF1, 7),
+    )?;
+    let b = run(rt, frame::SHORTEST, 0xE9, 64, refused(7))?;
+    let c = run(
+        rt,
+        frame::SHORTEST,
+        0xEF,
+        64,
+        taken(69, 0x80, 0x11, 0xF1, 0x40),
+    )?;
+    Ok(a + b + c)
 }
 
 // The values of the other choices: how many are right, of 6.
-fn run_chosen() -> u64 {
+fn run_chosen(rt: &impl Print) -> io::Result<u64> {
     let a = run(
+        rt,
         frame::IN_FORMAT_BYTE,
         0xEF,
         63,
         taken(67, 0xBF, 0x11, 0xF1, 7),
-    );
-    let b = run(frame::IN_FORMAT_BYTE, 0xEF, 64, refused(7));
-    let c = run(frame::IN_FORMAT_BYTE, 0xEA, 2, refused(7));
-    let d = run(frame::IN_EXTRA_BYTE, 0xEF, 2, taken(7, 0x80, 0x11, 0xF1, 2));
-    let e = run(frame::IN_EXTRA_BYTE, 0xE9, 2, refused(7));
-    let f = run(3, 0xEF, 2, refused(6));
-    a + b + c + d + e + f
+    )?;
+    let b = run(rt, frame::IN_FORMAT_BYTE, 0xEF, 64, refused(7))?;
+    let c = run(rt, frame::IN_FORMAT_BYTE, 0xEA, 2, refused(7))?;
+    let d = run(
+        rt,
+        frame::IN_EXTRA_BYTE,
+        0xEF,
+        2,
+        taken(7, 0x80, 0x11, 0xF1, 2),
+    )?;
+    let e = run(rt, frame::IN_EXTRA_BYTE, 0xE9, 2, refused(7))?;
+    let f = run(rt, 3, 0xEF, 2, refused(6))?;
+    Ok(a + b + c + d + e + f)
 }
 
-fn main() {
-    io::write_all(
-        STDOUT_FILENO,
-        b"number, length, first four bytes of the buffer\n",
-    );
-    let shortest = run_shortest();
-    let chosen = run_chosen();
+fn main(rt: HostRuntime) -> io::Result<()> {
+    println!(rt; "number, length, first four bytes of the buffer")?;
+    let shortest = run_shortest(&rt)?;
+    let chosen = run_chosen(&rt)?;
     if shortest == 3 {
         if chosen == 6 {
-            io::write_all(STDOUT_FILENO, b"all right\n");
-            return;
+            return println!(rt; "all right");
         }
     }
-    io::write_all(STDOUT_FILENO, b"NOT all right\n");
+    println!(rt; "NOT all right")
 }

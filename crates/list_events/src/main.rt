@@ -6,8 +6,15 @@ ghost use Rattle.std.specs.Prelude.{◌≤◌, length};
 ghost use Rattle.listing.specs.Parts.{answer_most, ending_most};
 ghost use Rattle.list_events.specs.Sending.{Listed};
 
-use libc::{STDERR_FILENO, STDIN_FILENO, STDOUT_FILENO};
 use listing::Lister;
+use std::env::{Env, FillError};
+use std::io::Read;
+use std::rt::Files;
+use std::{fs, io, str};
+
+mod failing;
+
+use failing::{fail, say};
 
 // The lister after so many bytes of a part, and whether all that was written went out.
 #[derive(Clone, Copy)]
@@ -17,17 +24,25 @@ struct Sent {
     whole: bool,
 }
 
+// How many bytes are read at a time, and written.
+const LARGE: usize = 65_536;
+
+// The longest name of a file.
+const NAME_MOST: usize = 4096;
+
 // Writes to standard output, and answers whether all went out.
-fn send(text: &[u8]) -> bool {
-    let is_sent = io::write_all(STDOUT_FILENO, text);
-    if !is_sent {
-        os::fail(b"list_events: standard output");
+fn send(rt: &(impl Print + Eprint + AllocGlobal), text: &[u8]) -> bool {
+    match rt.write_all(text) {
+        Ok(()) => true,
+        Err(error) => {
+            fail(rt, "list_events: standard output", &error);
+            false
+        }
     }
-    is_sent
 }
 
 // Lists a part of the input, one buffer after another.
-fn list(l: Lister, s: &[u8], out: &mut [u8]) -> Sent
+fn list(rt: &(impl Print + Eprint + AllocGlobal), l: Lister, s: &[u8], out: &mut [u8]) -> Sent
     requires { answer_most ≤ length out.old }
     ensures { Listed l s.now result }
 {
@@ -38,7 +53,7 @@ fn list(l: Lister, s: &[u8], out: &mut [u8]) -> Sent
         let n = p.put;
         x = p.lister;
         at = at + p.at;
-        let is_sent = send(&out[..n]);
+        let is_sent = send(rt, &out[..n]);
         if !is_sent {
             return Sent {
                 lister: x,
@@ -55,86 +70,116 @@ fn list(l: Lister, s: &[u8], out: &mut [u8]) -> Sent
 }
 
 // The input has ended. (The buffer has room for what is then written.)
-fn finish(l: Lister, out: &mut [u8])
+fn finish(rt: &(impl Print + Eprint + AllocGlobal), l: Lister, out: &mut [u8])
     requires { ending_most ≤ length out.old }
 {
     let n = listing::finish(l, out);
-    send(&out[..n]);
+    send(rt, &out[..n]);
 }
 
-// Lists the input from a first read on, which gave `first`. A proved loop has to end, and nothing says
-// that an input does: so it counts its turns down from a number that no run uses up.
-fn list_all(fd: i32, first: isize, buf: &mut [u8], out: &mut [u8])
+// Reads once, and answers how many bytes came, if the input can be read.
+fn read_some(
+    rt: &(impl Eprint + AllocGlobal),
+    input: &mut impl Read,
+    buf: &mut [u8],
+) -> Option<usize> {
+    match input.read(buf) {
+        Ok(n) => Some(n),
+        Err(error) => {
+            fail(rt, "list_events: the input", &error);
+            None
+        }
+    }
+}
+
+// Lists the input from a first read on, which gave `first` bytes. A proved loop has to end, and nothing
+// says that an input does: so it has a number of turns that no run uses up.
+fn list_all(
+    rt: &(impl Print + Eprint + AllocGlobal),
+    input: &mut impl Read,
+    first: usize,
+    buf: &mut [u8],
+    out: &mut [u8],
+)
     requires { ending_most ≤ length out.old }
 {
     let mut l = listing::begin();
     let mut got = first;
-    let mut turns = u64::MAX;
-    while 0 < turns {
-        let n = io::count(got, buf);
+    for _ in 0..u64::MAX {
+        let n = got.min(buf.len());
         if n == 0 {
-            finish(l, out);
+            finish(rt, l, out);
             return;
         }
-        let r = list(l, &buf[..n], out);
+        let r = list(rt, l, &buf[..n], out);
         let whole = r.whole;
         if !whole {
             return;
         }
         l = r.lister;
-        got = libc::read(fd, buf);
-        if got < 0 {
-            os::fail(b"list_events: the input");
+        let Some(more) = read_some(rt, input, buf) else {
             return;
-        }
-        turns -= 1;
+        };
+        got = more;
     }
 }
 
 // Lists an input that is open. Where not even a first read is possible there is no listing.
-fn list_open(fd: i32, buf: &mut [u8], out: &mut [u8])
+fn list_open(
+    rt: &(impl Print + Eprint + AllocGlobal),
+    input: &mut impl Read,
+    buf: &mut [u8],
+    out: &mut [u8],
+)
     requires { ending_most ≤ length out.old }
 {
-    let first = libc::read(fd, buf);
-    if first < 0 {
-        os::fail(b"list_events: the input");
+    let Some(first) = read_some(rt, input, buf) else {
         return;
-    }
+    };
     let n = text::put_head(out, 0);
-    let is_sent = send(&out[..n]);
+    let is_sent = send(rt, &out[..n]);
     if is_sent {
-        list_all(fd, first, buf, out);
+        list_all(rt, input, first, buf, out);
     }
+}
+
+// Whether the command line has an argument of this number.
+fn has_argument(rt: &impl Env, i: usize) -> bool {
+    !matches!(rt.arg(i, &mut []), Err(FillError::NotPresent))
 }
 
 // The file that the one argument names.
-fn open_named() -> i32 {
-    let mut path = io::buffer();
-    let n = os::arg(1, &mut path);
-    if os::errno() != 0 {
-        os::fail(b"list_events: the file's name");
-        return -1;
+fn open_named<R: Files + Env + Eprint + AllocGlobal>(rt: &R) -> Option<R::File> {
+    let mut path = [0u8; NAME_MOST];
+    let Ok(n) = rt.arg(1, &mut path) else {
+        say(rt, "list_events: the file's name", "File name too long");
+        return None;
+    };
+    let Ok(name) = str::from_utf8(&path[..n]) else {
+        say(rt, "list_events: the file's name", "it is not UTF-8");
+        return None;
+    };
+    match fs::open(rt, name) {
+        Ok(file) => Some(file),
+        Err(error) => {
+            fail(rt, name, &error);
+            None
+        }
     }
-    let fd = os::open_read(&path[..n]);
-    if fd < 0 {
-        os::fail(&path[..n]);
-    }
-    fd
 }
 
-fn main() {
-    let mut fd = STDIN_FILENO;
-    if 2 < os::arg_count() {
-        io::write_all(STDERR_FILENO, b"usage: list_events [FILE]\n");
+fn main(rt: HostRuntime) {
+    if has_argument(&rt, 2) {
+        let _ = eprintln!(rt; "usage: list_events [FILE]");
         return;
     }
-    if os::arg_count() == 2 {
-        fd = open_named();
-    }
-    if fd < 0 {
+    let mut buf = [0u8; LARGE];
+    let mut out = [0u8; LARGE];
+    if !has_argument(&rt, 1) {
+        list_open(&rt, &mut rt.stdin(), &mut buf, &mut out);
         return;
     }
-    let mut buf = io::large_buffer();
-    let mut out = io::large_buffer();
-    list_open(fd, &mut buf, &mut out);
+    if let Some(mut file) = open_named(&rt) {
+        list_open(&rt, &mut file, &mut buf, &mut out);
+    }
 }

@@ -5,9 +5,10 @@
 #![tactic(auto)]
 
 use events::Event;
-use libc::{STDIN_FILENO, STDOUT_FILENO};
 use link::Link;
 use reports::{Counts, Report, Reports};
+use std::io;
+use std::io::Read;
 use units::Micros;
 
 // A link, with the counts that it is lent.
@@ -51,51 +52,52 @@ fn event_of(s: [u8; 20]) -> Event {
     }
 }
 
-fn print(text: &[u8]) {
-    io::write_all(STDOUT_FILENO, text);
+fn print(rt: &impl Print, text: &[u8]) -> io::Result<()> {
+    rt.write_all(text)
 }
 
 // A number after a space.
-fn print_next(n: u64) {
-    io::write_all(STDOUT_FILENO, b" ");
-    io::print_decimal(STDOUT_FILENO, n);
+fn print_next(rt: &impl Print, n: u64) -> io::Result<()> {
+    print!(rt; " {n}")
 }
 
-fn print_report(x: Report) {
+fn print_report(rt: &impl Print, x: Report) -> io::Result<()> {
     let t = x.time;
-    io::print_decimal(STDOUT_FILENO, x.number as u64);
-    print_next(x.reason as u64);
-    print_next(x.first);
-    print_next(x.bytes);
-    print_next(t.0);
-    print(b"\n");
+    rt.print(x.number)?;
+    print_next(rt, x.reason as u64)?;
+    print_next(rt, x.first)?;
+    print_next(rt, x.bytes)?;
+    print_next(rt, t.0)?;
+    print(rt, b"\n")
 }
 
-fn print_reports(rs: Reports) {
+fn print_reports(rt: &impl Print, rs: Reports) -> io::Result<()> {
     let a = rs.a;
     let b = rs.b;
     let c = rs.c;
     let d = rs.d;
     if 1 <= rs.n {
-        print_report(a);
+        print_report(rt, a)?;
     }
     if 2 <= rs.n {
-        print_report(b);
+        print_report(rt, b)?;
     }
     if 3 <= rs.n {
-        print_report(c);
+        print_report(rt, c)?;
     }
     if 4 <= rs.n {
-        print_report(d);
+        print_report(rt, d)?;
     }
+    Ok(())
 }
 
-fn print_refusal(no: u8) {
+fn print_refusal(rt: &impl Print, no: u8) -> io::Result<()> {
     if no != 0 {
-        print(b"refused");
-        print_next(no as u64);
-        print(b"\n");
+        print(rt, b"refused")?;
+        print_next(rt, no as u64)?;
+        print(rt, b"\n")?;
     }
+    Ok(())
 }
 
 fn held(l: Link) -> u64 {
@@ -105,19 +107,19 @@ fn held(l: Link) -> u64 {
     0
 }
 
-fn print_end(s: Session) {
+fn print_end(rt: &impl Print, s: Session) -> io::Result<()> {
     let c = s.counts;
     let l = s.link;
-    print(b"end");
-    print_next(c.heard);
-    print_next(c.framed);
-    print_next(c.damaged);
-    print_next(c.started);
-    print_next(c.outside);
-    print_next(c.frames);
-    print_next(c.damages);
-    print_next(held(l));
-    print(b"\n");
+    print(rt, b"end")?;
+    print_next(rt, c.heard)?;
+    print_next(rt, c.framed)?;
+    print_next(rt, c.damaged)?;
+    print_next(rt, c.started)?;
+    print_next(rt, c.outside)?;
+    print_next(rt, c.frames)?;
+    print_next(rt, c.damages)?;
+    print_next(rt, held(l))?;
+    print(rt, b"\n")
 }
 
 fn fresh() -> Session {
@@ -127,12 +129,12 @@ fn fresh() -> Session {
     }
 }
 
-fn print_head() {
-    print(b"report reason first bytes time\n");
+fn print_head(rt: &impl Print) -> io::Result<()> {
+    print(rt, b"report reason first bytes time\n")
 }
 
 // One event is heard, with the counts lent for it, and its answer is printed.
-fn hear(s: Session, e: Event) -> Session {
+fn hear(rt: &impl Print, s: Session, e: Event) -> io::Result<Session> {
     let l = s.link;
     let c = s.counts;
     let t = counts::step_owned(c, l, e);
@@ -140,56 +142,57 @@ fn hear(s: Session, e: Event) -> Session {
     let d = t.counts;
     let rs = a.reports;
     let to = a.link;
-    print_refusal(a.no);
-    print_reports(rs);
-    Session {
+    print_refusal(rt, a.no)?;
+    print_reports(rt, rs)?;
+    Ok(Session {
         link: to,
         counts: d,
-    }
+    })
 }
 
-// The next record of the input.
-fn next_record() -> Record {
+// The next record of the input: there is none where the input ends before its last byte, or can't be read.
+fn next_record(input: &mut impl Read) -> Record {
     let mut s = [0u8; 20];
-    let n = io::read_full(STDIN_FILENO, &mut s);
+    let there = input.read_exact(&mut s).is_ok();
     Record {
         event: event_of(s),
-        there: n == 20,
+        there: there,
         ends: s[0] == 0,
     }
 }
 
 // One record: an event, or the end of a list.
-fn take(s: Session, r: Record) -> Session {
+fn take(rt: &impl Print, s: Session, r: Record) -> io::Result<Session> {
     let e = r.event;
     let ends = r.ends;
     if ends {
-        print_end(s);
-        return fresh();
+        print_end(rt, s)?;
+        return Ok(fresh());
     }
-    hear(s, e)
+    hear(rt, s, e)
 }
 
 // The head of a list, where a record begins one.
-fn head(first: bool) {
+fn head(rt: &impl Print, first: bool) -> io::Result<()> {
     if first {
-        print_head();
+        return print_head(rt);
     }
+    Ok(())
 }
 
-fn main() {
+fn main(rt: HostRuntime) -> io::Result<()> {
+    let mut input = rt.stdin();
     let mut s = fresh();
     let mut first = true;
-    let mut i: u64 = 0;
-    while i < MOST {
-        let r = next_record();
+    for _ in 0..MOST {
+        let r = next_record(&mut input);
         let there = r.there;
         if !there {
-            return;
+            return Ok(());
         }
-        head(first);
+        head(&rt, first)?;
         first = r.ends;
-        s = take(s, r);
-        i += 1;
+        s = take(&rt, s, r)?;
     }
+    Ok(())
 }

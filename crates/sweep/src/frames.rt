@@ -47,21 +47,17 @@ fn made_length(seed: u32, most: u32) -> usize {
 // Fills a slice with made-up bytes.
 fn fill(seed: u32, s: &mut [u8]) {
     let mut x = seed;
-    let mut i = 0;
-    while i < s.len() {
+    for b in s {
         x = marks::next(x);
-        s[i] = (x / 65536 % 256) as u8;
-        i += 1;
+        *b = (x / 65536 % 256) as u8;
     }
 }
 
 // The sum of all bytes but the last.
 fn sum_before_last(s: &[u8]) -> u32 {
     let mut sum: u32 = 0;
-    let mut i = 1;
-    while i < s.len() {
+    for i in 1..s.len() {
         sum = (sum % 256 + marks::wide(s[i - 1]) % 256) % 256;
-        i += 1;
     }
     sum
 }

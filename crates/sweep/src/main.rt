@@ -6,6 +6,8 @@ mod frames;
 mod marks;
 mod times;
 
+use std::io;
+
 // What a run of cases came to: how many were taken, how many came back (codes that their windows
 // have as codes, slices that read well), and a digest of all answers.
 #[derive(Clone, Copy)]
@@ -64,31 +66,35 @@ fn run(kind: u8, n: u32) -> Tally {
         taken: 0,
         back: 0,
     };
-    let mut i: u32 = 0;
-    while i < n {
+    for i in 0..n {
         t = case(kind, t, i);
-        i += 1;
     }
     t
 }
 
 // Runs so many cases of a kind, and prints what came.
-fn part(what: &[u8], kind: u8, n: u32) {
-    marks::print_tally(what, run(kind, n));
+fn part(rt: &impl Print, what: &[u8], kind: u8, n: u32) -> io::Result<()> {
+    marks::print_tally(rt, what, run(kind, n))
 }
 
-fn main() {
-    part(b"each pair of key bytes", 0, 65536);
+fn main(rt: HostRuntime) -> io::Result<()> {
+    part(&rt, b"each pair of key bytes", 0, 65536)?;
     part(
+        &rt,
         b"each code of P2 and P3 max, P3 min with P4 min, and P2 min about P2 max",
         1,
         66063,
-    );
-    part(b"20000 made-up codes", 2, 20000);
-    part(b"the set of each KB1", 3, 256);
-    part(b"20000 made-up plans, built by choice 0 and read", 4, 20000);
-    part(b"the same plans by choice 1", 5, 20000);
-    part(b"the same plans by choice 2", 6, 20000);
-    part(b"the same plans by choice 3", 7, 20000);
-    part(b"20000 made-up slices, read", 8, 20000);
+    )?;
+    part(&rt, b"20000 made-up codes", 2, 20000)?;
+    part(&rt, b"the set of each KB1", 3, 256)?;
+    part(
+        &rt,
+        b"20000 made-up plans, built by choice 0 and read",
+        4,
+        20000,
+    )?;
+    part(&rt, b"the same plans by choice 1", 5, 20000)?;
+    part(&rt, b"the same plans by choice 2", 6, 20000)?;
+    part(&rt, b"the same plans by choice 3", 7, 20000)?;
+    part(&rt, b"20000 made-up slices, read", 8, 20000)
 }

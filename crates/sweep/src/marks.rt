@@ -1,6 +1,6 @@
 // Digests, made-up numbers and printed lines.
 use crate::Tally;
-use libc::STDOUT_FILENO;
+use std::io;
 
 // A digest with one number more.
 pub(crate) fn mix(d: u32, x: u32) -> u32 {
@@ -22,10 +22,8 @@ pub(crate) fn wide(x: u8) -> u32 {
 // A digest with all bytes of a slice more.
 pub(crate) fn mix_all(d: u32, s: &[u8]) -> u32 {
     let mut sum = d;
-    let mut i = 0;
-    while i < s.len() {
-        sum = mix(sum, wide(s[i]));
-        i += 1;
+    for b in s {
+        sum = mix(sum, wide(*b));
     }
     sum
 }
@@ -44,11 +42,9 @@ pub(crate) fn below(seed: u32, n: u32) -> u32 {
 }
 
 // A line: what is counted, and the count.
-fn line(what: &[u8], n: u64) {
-    io::write_all(STDOUT_FILENO, what);
-    io::write_all(STDOUT_FILENO, b": ");
-    io::print_decimal(STDOUT_FILENO, n);
-    io::write_all(STDOUT_FILENO, b"\n");
+fn line(rt: &impl Print, what: &[u8], n: u64) -> io::Result<()> {
+    rt.write_all(what)?;
+    println!(rt; ": {n}")
 }
 
 fn counted(n: u32, more: bool) -> u32 {
@@ -68,10 +64,10 @@ pub(crate) fn tally(t: Tally, digest: u32, taken: bool, back: bool) -> Tally {
 }
 
 // A tally's three lines.
-pub(crate) fn print_tally(what: &[u8], t: Tally) {
-    io::write_all(STDOUT_FILENO, what);
-    io::write_all(STDOUT_FILENO, b"\n");
-    line(b"  taken", t.taken as u64);
-    line(b"  came back", t.back as u64);
-    line(b"  digest", t.digest as u64);
+pub(crate) fn print_tally(rt: &impl Print, what: &[u8], t: Tally) -> io::Result<()> {
+    rt.write_all(what)?;
+    rt.write_all(b"\n")?;
+    line(rt, b"  taken", t.taken as u64)?;
+    line(rt, b"  came back", t.back as u64)?;
+    line(rt, b"  digest", t.digest as u64)
 }
