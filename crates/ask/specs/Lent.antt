@@ -1,6 +1,5 @@
 -- A buffer that a question lends (in quotation marks: README, "Questions"). Assumes nothing.
-use Rattle.std.specs.Prelude.{ℕ, Bool, true, false, List, [], ◌∷◌, eqb}
-use Rattle.base.specs.Choice.{if◌then◌else◌}
+use Rattle.std.specs.Prelude.{ℕ, Bool, true, false, List, [], ◌∷◌, eqb, if◌then◌else◌}
 
 -- "filled with EE before the call"
 abbrev pub filling : ℕ

@@ -1,4 +1,3 @@
-pub mod Choice
 pub mod Numbers
 pub mod Reports
 pub mod Sums

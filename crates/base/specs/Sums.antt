@@ -1,6 +1,5 @@
 -- Sums that stay where they belong. Assumes nothing.
-use Rattle.std.specs.Prelude.{ℕ, ◌+◌, ◌-◌, ◌%◌, leb}
-use Rattle.base.specs.Choice.{if◌then◌else◌}
+use Rattle.std.specs.Prelude.{ℕ, ◌+◌, ◌-◌, ◌%◌, leb, if◌then◌else◌}
 
 -- of bytes, "modulo 256"
 unfoldable pub byte_sum : ℕ → ℕ → ℕ

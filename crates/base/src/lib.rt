@@ -2,8 +2,7 @@
 // definitions), and sums and choices that several crates use.
 #![tactic(auto)]
 
-ghost use Rattle.std.specs.Prelude.{◌≡◌, ◌-◌};
-ghost use Rattle.base.specs.Choice.{if◌then◌else◌};
+ghost use Rattle.std.specs.Prelude.{◌≡◌, ◌-◌, if◌then◌else◌};
 ghost use Rattle.base.specs.Sums.{byte_sum, count_sum};
 
 pub mod reason;

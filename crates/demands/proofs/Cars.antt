@@ -12,7 +12,7 @@ use native.Mathlib.Omega.{arith}
 use borrow.Author.Tests.{eqb-true, eq-eqb, le-leb, leb-true, ltb-true, ltb-false}
 use lib.Dec.{eqb, leb, ltb}
 use lib.ListN.{length, length-append}
-use Rattle.base.specs.Choice.{if◌then◌else◌}
+use Rattle.std.specs.Prelude.{if◌then◌else◌}
 use Rattle.base.specs.Reports.{damage_report, no_reason, broken_off, early, stray, mode_one, wrong_form, other_side, wrong_length, wrong_sum}
 use Rattle.base.proofs.Tests.{and_split, by_test}
 use Rattle.units.specs.declared.Micros.{Micros}

@@ -1,6 +1,5 @@
 -- What reports name, bytes held, and counts worked out from a history, for demands 2 and 3. Assumes nothing.
-use Rattle.std.specs.Prelude.{ℕ, ◌+◌, ◌-◌, ◌≤◌, List, [], ◌∷◌, ◌++◌, ◌≡◌, eqb, length, take, drop}
-use Rattle.base.specs.Choice.{if◌then◌else◌}
+use Rattle.std.specs.Prelude.{ℕ, ◌+◌, ◌-◌, ◌≤◌, List, [], ◌∷◌, ◌++◌, ◌≡◌, eqb, length, take, drop, if◌then◌else◌}
 use Rattle.base.specs.Reports.{frame_report, damage_report, connected_report, failed_report, outside_report}
 use Rattle.events.specs.declared.Event.{Event}
 use Rattle.reports.specs.declared.Report.{Report}

@@ -1,8 +1,7 @@
 -- Why bytes are reported as damage, told by the values and sides of the bytes that report 2 names, from the first one on, and by the key bytes (document 01,
 -- "Connected."; document 02, "Five"). Stated of any link in DemandTwo.antt; that it holds of ours is proved in proofs/Damage/DamageReasons.antt.
 -- Assumes nothing.
-use Rattle.std.specs.Prelude.{ℕ, ◌+◌, ◌/◌, ◌%◌, ◌<◌, Bool, true, not, ◌&&◌, List, [], ◌∷◌, ◌++◌, ◌≡◌, ◌⊎◌, eqb, leb, length}
-use Rattle.base.specs.Choice.{if◌then◌else◌}
+use Rattle.std.specs.Prelude.{ℕ, ◌+◌, ◌/◌, ◌%◌, ◌<◌, Bool, true, not, ◌&&◌, List, [], ◌∷◌, ◌++◌, ◌≡◌, ◌⊎◌, eqb, leb, length, if◌then◌else◌}
 use Rattle.base.specs.Reports.{no_reason, closed, mode_one, wrong_form, other_side, wrong_length, wrong_sum}
 use Rattle.units.specs.declared.Micros.{Micros}
 use Rattle.keys.specs.Keys.{length_in_format, extra_length, no_addresses, with_addresses, is_extended}

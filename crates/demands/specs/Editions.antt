@@ -4,8 +4,7 @@
 -- frames, and none of a car's, whose key bytes `read` refuses), `reason_in` (Damage.antt: why its bytes are damage), `IsOver` and `CutsIn` (Messages.antt:
 -- when a car's message ends), and `reply_once_ended` and `OpensIn` (Sessions.antt: what that leaves). All else is said of both editions at once.
 -- Assumes nothing.
-use Rattle.std.specs.Prelude.{ℕ, ◌+◌, ◌%◌, Bool, true, false, not, ◌&&◌, ◌||◌, List, [], ◌∷◌, eqb, leb, length}
-use Rattle.base.specs.Choice.{if◌then◌else◌}
+use Rattle.std.specs.Prelude.{ℕ, ◌+◌, ◌%◌, Bool, true, false, not, ◌&&◌, ◌||◌, List, [], ◌∷◌, eqb, leb, length, if◌then◌else◌}
 use Rattle.base.specs.Numbers.{taken}
 use Rattle.base.specs.Reports.{no_reason, broken_off, wrong_form, wrong_length, wrong_sum}
 use Rattle.keys.specs.Keys.{is_good}

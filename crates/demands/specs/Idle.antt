@@ -2,8 +2,7 @@
 -- "One", has other times for the 300 ms). It goes by the latest report 4, report 7 or drop before the start is judged, those of its own event among them.
 -- A log here is one of events taken.
 -- Assumes nothing.
-use Rattle.std.specs.Prelude.{ℕ, ◌+◌, Bool, true, false, ◌&&◌, eqb}
-use Rattle.base.specs.Choice.{if◌then◌else◌}
+use Rattle.std.specs.Prelude.{ℕ, ◌+◌, Bool, true, false, ◌&&◌, eqb, if◌then◌else◌}
 use Rattle.base.specs.Reports.{connected_report, failed_report, down_report, wrong_low, stopped, idle_over}
 use Rattle.units.specs.Units.{micros}
 use Rattle.units.specs.declared.Micros.{Micros}

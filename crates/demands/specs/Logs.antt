@@ -1,8 +1,7 @@
 -- Events in order, and what document 01 says of them without a link: clock, mark, bytes heard, and which events are taken. A log grows at its right
 -- end, so that it reads as the events came.
 -- Assumes nothing.
-use Rattle.std.specs.Prelude.{ℕ, ◌+◌, ◌<◌, List, [], ◌∷◌, ◌++◌, eqb, leb}
-use Rattle.base.specs.Choice.{if◌then◌else◌}
+use Rattle.std.specs.Prelude.{ℕ, ◌+◌, ◌<◌, List, [], ◌∷◌, ◌++◌, eqb, leb, if◌then◌else◌}
 use Rattle.base.specs.Numbers.{taken}
 use Rattle.units.specs.Units.{micros}
 use Rattle.units.specs.declared.Micros.{Micros}

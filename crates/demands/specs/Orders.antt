@@ -1,6 +1,5 @@
 -- The order of an event's reports, and which bytes a report 4 names (document 01, "Events and what the link does"). Assumes nothing.
-use Rattle.std.specs.Prelude.{ℕ, ◌+◌, ◌<◌, not, ◌&&◌, ◌||◌, List, [], ◌∷◌, ◌⊎◌, ◌≡◌, eqb}
-use Rattle.base.specs.Choice.{if◌then◌else◌}
+use Rattle.std.specs.Prelude.{ℕ, ◌+◌, ◌<◌, not, ◌&&◌, ◌||◌, List, [], ◌∷◌, ◌⊎◌, ◌≡◌, eqb, if◌then◌else◌}
 use Rattle.base.specs.Reports.{frame_report, damage_report, failed_report, no_reply_report, down_report, not_idle_report}
 use Rattle.base.specs.Reports.{window_over, closed, wrong_low, wrong_side, too_early, misfit, stopped, idle_over}
 use Rattle.reports.specs.declared.Report.{Report}

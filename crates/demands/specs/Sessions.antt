@@ -2,8 +2,7 @@
 -- ends in it; and the first byte of a message, told by the events before it.
 -- (document 01, "Connected." and "By their data"; document 02, "Five")
 -- Assumes nothing.
-use Rattle.std.specs.Prelude.{ℕ, suc, ◌-◌, ◌<◌, Bool, true, false, ◌&&◌, ◌||◌, List, [], ◌∷◌, ◌≡◌, ◌↔◌, ◌⊎◌, eqb, length, get_or}
-use Rattle.base.specs.Choice.{if◌then◌else◌}
+use Rattle.std.specs.Prelude.{ℕ, suc, ◌-◌, ◌<◌, Bool, true, false, ◌&&◌, ◌||◌, List, [], ◌∷◌, ◌≡◌, ◌↔◌, ◌⊎◌, eqb, length, get_or, if◌then◌else◌}
 use Rattle.base.specs.Numbers.{taken}
 use Rattle.base.specs.Reports.{frame_report, damage_report, connected_report, no_reply_report, down_report, early, stray}
 use Rattle.units.specs.Units.{gap_of}

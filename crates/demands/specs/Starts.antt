@@ -1,8 +1,7 @@
 -- What a good initialization is (document 01, "Slow." and "Fast."): the places that its bytes take in turn, and the place that is due after the bytes so
 -- far. All of it is said of sides, values, starts and ends; nothing here speaks of a link.
 -- Assumes nothing.
-use Rattle.std.specs.Prelude.{ℕ, ◌+◌, ◌-◌, ◌%◌, ◌≤◌, Bool, true, false, List, [], ◌∷◌, ◌≡◌, ◌⊎◌, eqb}
-use Rattle.base.specs.Choice.{if◌then◌else◌}
+use Rattle.std.specs.Prelude.{ℕ, ◌+◌, ◌-◌, ◌%◌, ◌≤◌, Bool, true, false, List, [], ◌∷◌, ◌≡◌, ◌⊎◌, eqb, if◌then◌else◌}
 use Rattle.units.specs.declared.Micros.{Micros}
 use Rattle.keys.specs.Keys.{pair_of, is_good}
 use Rattle.keys.specs.Editions.{is_slow_pair}

@@ -1,8 +1,7 @@
 -- The wrong programs that document 01 wants shut out ("What a caller can rely on"), the accident that must not come again, wrong links that a single field
 -- of a demand is there for, and our link with another idle time than document 02 says. That each breaks a demand is proved in proofs/WrongLinks/ShutOut.antt.
 -- Assumes nothing.
-use Rattle.std.specs.Prelude.{ℕ, ◌+◌, ◌-◌, Bool, true, false, not, ◌&&◌, ◌||◌, List, [], ◌∷◌, ◌++◌, eqb}
-use Rattle.base.specs.Choice.{if◌then◌else◌}
+use Rattle.std.specs.Prelude.{ℕ, ◌+◌, ◌-◌, Bool, true, false, not, ◌&&◌, ◌||◌, List, [], ◌∷◌, ◌++◌, eqb, if◌then◌else◌}
 use Rattle.base.specs.Numbers.{taken, too_many}
 use Rattle.base.specs.Sums.{count_sum}
 use Rattle.base.specs.Reports.{failed_report, outside_report, down_report, not_idle_report, no_reason, stopped, idle_over, restarted}

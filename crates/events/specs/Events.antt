@@ -1,8 +1,7 @@
 -- Events, and which of them are refused (document 01, "Events and what the link does", "Numbers a caller may get back").
 -- Assumes nothing.
-use Rattle.std.specs.Prelude.{ℕ, Bool, true, false, ◌&&◌, ◌||◌, eqb}
+use Rattle.std.specs.Prelude.{ℕ, Bool, true, false, ◌&&◌, ◌||◌, eqb, if◌then◌else◌}
 use Rattle.std.proofs.Math.Option.{Option, none, some}
-use Rattle.base.specs.Choice.{if◌then◌else◌}
 use Rattle.base.specs.Numbers.{taken, unknown, too_late, out_of_order, too_many}
 use Rattle.units.specs.Units.{micros, is_earlier}
 use Rattle.units.specs.declared.Micros.{Micros}

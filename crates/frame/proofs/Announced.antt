@@ -5,7 +5,7 @@ use Prim.Native.Nat.{ℕ, ◌≤◌}
 use native.Mathlib.Omega.{arith}
 use borrow.Author.Tests.{leb-true, le-leb, ltb-false}
 use lib.Dec.{eqb, leb}
-use Rattle.base.specs.Choice.{if◌then◌else◌}
+use Rattle.std.specs.Prelude.{if◌then◌else◌}
 use Rattle.base.specs.Numbers.{taken, bad_keys, bad_form, bad_length, no_room}
 use Rattle.base.proofs.Tests.{and_split, by_test}
 use Rattle.keys.specs.Keys.{good_pair, takes_form, length_in_format, extra_length}

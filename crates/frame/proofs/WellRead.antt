@@ -12,7 +12,7 @@ use borrow.Author.Tests.{eqb-true, eqb-false, eq-eqb}
 use lib.Dec.{eqb}
 use lib.ListN.{length, get_or, take, drop, length-drop}
 use lib.Seq.{take-suc, take-add, take_all, length-take-le}
-use Rattle.base.specs.Choice.{if◌then◌else◌}
+use Rattle.std.specs.Prelude.{if◌then◌else◌}
 use Rattle.base.specs.Numbers.{taken, bad_form, bad_length, bad_checksum, bad_keys}
 use Rattle.base.proofs.Tests.{by_test}
 use Rattle.keys.specs.Keys.{good_pair, takes_form, length_in_format, extra_length}

@@ -1,6 +1,5 @@
 -- Building a frame into a lent buffer (document 01, "Frames"; document 02, Two: the length's place is chosen). Assumes nothing.
-use Rattle.std.specs.Prelude.{◌≡◌, ℕ, ◌+◌, ◌≤◌, Bool, ◌&&◌, not, List, ◌++◌, length, take, drop, eqb, leb, ltb}
-use Rattle.base.specs.Choice.{if◌then◌else◌}
+use Rattle.std.specs.Prelude.{◌≡◌, ℕ, ◌+◌, ◌≤◌, Bool, ◌&&◌, not, List, ◌++◌, length, take, drop, eqb, leb, ltb, if◌then◌else◌}
 use Rattle.base.specs.Numbers.{taken, bad_keys, bad_form, bad_length, no_room}
 use Rattle.keys.specs.Keys.{good_pair, takes_form, length_in_format, extra_length}
 use Rattle.keys.specs.declared.Form.{Form}

@@ -1,8 +1,7 @@
 -- A frame's layout, which building and reading share (document 01, "Frames"; ISO 14230-2, clauses 4.1 to 4.4, figures 4 and 5).
 -- A departure from ISO 14230-2:1999: its clause 4.2 says once that a header has at most 3 bytes; figure 4 and the French text say 4, and 4 decides.
 -- Assumes nothing.
-use Rattle.std.specs.Prelude.{◌≡◌, ℕ, ◌+◌, ◌-◌, ◌/◌, ◌%◌, Bool, true, false, List, [], ◌∷◌, ◌++◌, length, get_or, take, eqb}
-use Rattle.base.specs.Choice.{if◌then◌else◌}
+use Rattle.std.specs.Prelude.{◌≡◌, ℕ, ◌+◌, ◌-◌, ◌/◌, ◌%◌, Bool, true, false, List, [], ◌∷◌, ◌++◌, length, get_or, take, eqb, if◌then◌else◌}
 use Rattle.keys.specs.declared.Form.{Form}
 use Rattle.keys.specs.declared.Form.TheVariants.{Plain, Physical, Functional, Foreign}
 use Rattle.frame.specs.declared.Place.{Place}

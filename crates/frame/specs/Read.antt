@@ -1,7 +1,6 @@
 -- Reading a slice that must be exactly one frame (document 01, "Frames"). Assumes nothing.
-use Rattle.std.specs.Prelude.{◌≡◌, ℕ, ◌+◌, ◌%◌, not, List, length, get_or, take, drop, eqb}
+use Rattle.std.specs.Prelude.{◌≡◌, ℕ, ◌+◌, ◌%◌, not, List, length, get_or, take, drop, eqb, if◌then◌else◌}
 use Rattle.std.specs.Borrow.{Bor}
-use Rattle.base.specs.Choice.{if◌then◌else◌}
 use Rattle.base.specs.Numbers.{taken, bad_keys, bad_form, bad_length, bad_checksum}
 use Rattle.keys.specs.Keys.{good_pair, takes_form, length_in_format, extra_length}
 use Rattle.keys.specs.declared.Form.TheVariants.{Plain}

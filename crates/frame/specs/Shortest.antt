@@ -1,8 +1,7 @@
 -- Document 01's builder, which knew no choice: what `build` promised before document 02's Two, word for word, with `place_for`, `not_built` and `over`, which
 -- stayed in Build.antt. It puts the length where the frame is shortest, and looks at no choice. `build` is proved to answer so under the choice 0
 -- (proofs/Shortest.antt). Assumes nothing.
-use Rattle.std.specs.Prelude.{◌≡◌, ℕ, ◌+◌, not, List, length, eqb, ltb}
-use Rattle.base.specs.Choice.{if◌then◌else◌}
+use Rattle.std.specs.Prelude.{◌≡◌, ℕ, ◌+◌, not, List, length, eqb, ltb, if◌then◌else◌}
 use Rattle.base.specs.Numbers.{taken, bad_keys, bad_form, bad_length, no_room}
 use Rattle.keys.specs.Keys.{good_pair, takes_form}
 use Rattle.frame.specs.Layout.{form_numbered, head_size, frame_of, is_nowhere}

@@ -1,8 +1,7 @@
 -- Which edition a unit speaks, by its pair of key bytes (document 02, "Five"; ISO 9141-2, clause 6). Only the link asks for it: `good_pair` knows no car, and so
 -- neither do `build` and `read`.
 -- Assumes nothing.
-use Rattle.std.specs.Prelude.{ℕ, Bool, true, false, ◌&&◌, ◌||◌, eqb}
-use Rattle.base.specs.Choice.{if◌then◌else◌}
+use Rattle.std.specs.Prelude.{ℕ, Bool, true, false, ◌&&◌, ◌||◌, eqb, if◌then◌else◌}
 use Rattle.keys.specs.Keys.{is_good}
 use Rattle.keys.specs.declared.Pair.{Pair}
 use Rattle.keys.specs.declared.Edition.{Edition}

@@ -1,8 +1,7 @@
 -- A line of a listing's input, read byte by byte (document 01, "The listing"): "the event's letter, then those of side, two hex digits and decimal
 -- times (microseconds) that its kind has, one space between". A line is read without its line feed.
 -- Assumes nothing.
-use Rattle.std.specs.Prelude.{ℕ, ◌+◌, ◌-◌, ◌*◌, ◌%◌, Bool, true, false, ◌&&◌, List, [], ◌∷◌, ◌==◌, nat_lt}
-use Rattle.base.specs.Choice.{if◌then◌else◌}
+use Rattle.std.specs.Prelude.{ℕ, ◌+◌, ◌-◌, ◌*◌, ◌%◌, Bool, true, false, ◌&&◌, List, [], ◌∷◌, ◌==◌, nat_lt, if◌then◌else◌}
 use Rattle.base.specs.Sums.{byte_sum}
 use Rattle.words.specs.Digits.{is_digit, hex_of}
 use Rattle.units.specs.Units.{micros}

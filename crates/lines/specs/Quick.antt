@@ -1,8 +1,7 @@
 -- A byte's line read at once, as the code reads it where all of it lies in one part. No rule stands here, and a reader may pass it over: that it is
 -- what the bytes give one by one is proved in proofs/Ways.antt.
 -- Assumes nothing.
-use Rattle.std.specs.Prelude.{ℕ, zero, suc, ◌+◌, ◌-◌, ◌*◌, Bool, true, not, ◌&&◌, List, length, ◌==◌, nat_le, nat_lt, slice_index}
-use Rattle.base.specs.Choice.{if◌then◌else◌}
+use Rattle.std.specs.Prelude.{ℕ, zero, suc, ◌+◌, ◌-◌, ◌*◌, Bool, true, not, ◌&&◌, List, length, ◌==◌, nat_le, nat_lt, slice_index, if◌then◌else◌}
 use Rattle.units.specs.Units.{micros}
 use Rattle.events.specs.Events.{side_by, same_side}
 use Rattle.events.specs.declared.Kind.TheVariants.{Byte}

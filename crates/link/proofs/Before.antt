@@ -10,7 +10,7 @@ use native.Mathlib.Omega.{arith}
 use borrow.Author.Tests.{eqb-true}
 use lib.Dec.{eqb}
 use lib.ListN.{take}
-use Rattle.base.specs.Choice.{if◌then◌else◌}
+use Rattle.std.specs.Prelude.{if◌then◌else◌}
 use Rattle.base.specs.Numbers.{taken}
 use Rattle.base.specs.Reports.{frame_report, damage_report, connected_report, failed_report, outside_report}
 use Rattle.base.specs.Reports.{no_reason, broken_off, other_side, wrong_length, wrong_sum, wrong_side, too_early, misfit, dropped, restarted}

@@ -1,7 +1,6 @@
 -- A link, and how an event is handled (document 01, "Events and what the link does", "Numbers a caller may get back").
 -- Assumes nothing.
-use Rattle.std.specs.Prelude.{ℕ}
-use Rattle.base.specs.Choice.{if◌then◌else◌}
+use Rattle.std.specs.Prelude.{ℕ, if◌then◌else◌}
 use Rattle.base.specs.Sums.{count_sum}
 use Rattle.base.specs.Reports.{dropped, restarted}
 use Rattle.units.specs.Units.{micros, gap_of}

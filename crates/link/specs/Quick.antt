@@ -1,8 +1,7 @@
 -- Tests that the code takes first, for the common byte. No rule stands here, and a reader may pass it over: that under these tests the answer is
 -- the one of `Stepping` is proved in proofs/Ways.antt.
 -- Assumes nothing.
-use Rattle.std.specs.Prelude.{Bool, true, false, not, ◌&&◌}
-use Rattle.base.specs.Choice.{if◌then◌else◌}
+use Rattle.std.specs.Prelude.{Bool, true, false, not, ◌&&◌, if◌then◌else◌}
 use Rattle.base.specs.Numbers.{taken}
 use Rattle.base.specs.Sums.{count_sum}
 use Rattle.units.specs.Units.{gap_of}

@@ -1,6 +1,5 @@
 -- A step of the link: any link, any counts, any event. Assumes nothing.
-use Rattle.std.specs.Prelude.{ℕ, eqb}
-use Rattle.base.specs.Choice.{if◌then◌else◌}
+use Rattle.std.specs.Prelude.{ℕ, eqb, if◌then◌else◌}
 use Rattle.base.specs.Numbers.{taken}
 use Rattle.events.specs.Events.{is_byte, refusal}
 use Rattle.events.specs.declared.Event.{Event}

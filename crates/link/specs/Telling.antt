@@ -1,7 +1,6 @@
 -- The reports of an event's moves, one after another, whatever places there are: a move has at most one, and an event's moves are those of `handled`.
 -- Assumes nothing.
-use Rattle.std.specs.Prelude.{ℕ, List, [], ◌∷◌, ◌++◌, eqb}
-use Rattle.base.specs.Choice.{if◌then◌else◌}
+use Rattle.std.specs.Prelude.{ℕ, List, [], ◌∷◌, ◌++◌, eqb, if◌then◌else◌}
 use Rattle.base.specs.Reports.{dropped, restarted}
 use Rattle.units.specs.Units.{gap_of}
 use Rattle.units.specs.declared.Micros.{Micros}

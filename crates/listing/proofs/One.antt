@@ -3,7 +3,7 @@ use mathlib.Core.Path.{◌≡◌}
 use mathlib.Core.List.{List}
 use Prim.Native.Nat.{ℕ, ◌+◌}
 use lib.ListN.{length}
-use Rattle.base.specs.Choice.{if◌then◌else◌}
+use Rattle.std.specs.Prelude.{if◌then◌else◌}
 use Rattle.base.proofs.One.{Only, only, only_both}
 use Rattle.words.specs.Writing.{put, fits, Writes}
 use Rattle.listing.specs.Listing.{fresh_lister, ending_of}

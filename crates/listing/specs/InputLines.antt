@@ -1,7 +1,6 @@
 -- The lines of an input (document 01, "The listing": "The program reads one event a line from standard input"; "the last line feed may be missing").
 -- Assumes nothing.
-use Rattle.std.specs.Prelude.{ℕ, List, [], ◌∷◌, eqb}
-use Rattle.base.specs.Choice.{if◌then◌else◌}
+use Rattle.std.specs.Prelude.{ℕ, List, [], ◌∷◌, eqb, if◌then◌else◌}
 use Rattle.lines.specs.Getting.{line_feed}
 
 -- a byte in front of the first line; where there is none, it is a line of its own

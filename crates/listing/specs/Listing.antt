@@ -1,6 +1,5 @@
 -- THE LISTING (document 01, "The listing"): from the bytes of an input to the bytes of the output. Assumes nothing.
-use Rattle.std.specs.Prelude.{ℕ, ◌-◌, List, [], ◌∷◌, ◌++◌, eqb}
-use Rattle.base.specs.Choice.{if◌then◌else◌}
+use Rattle.std.specs.Prelude.{ℕ, ◌-◌, List, [], ◌∷◌, ◌++◌, eqb, if◌then◌else◌}
 use Rattle.base.specs.Numbers.{taken}
 use Rattle.events.specs.declared.Event.{Event}
 use Rattle.reports.specs.Reporting.{listed}

@@ -1,6 +1,5 @@
 -- A part of the input, listed into a lent buffer. Assumes nothing.
-use Rattle.std.specs.Prelude.{ℕ, ◌+◌, ◌-◌, ◌≡◌, List, [], ◌∷◌, leb, ltb, length}
-use Rattle.base.specs.Choice.{if◌then◌else◌}
+use Rattle.std.specs.Prelude.{ℕ, ◌+◌, ◌-◌, ◌≡◌, List, [], ◌∷◌, leb, ltb, length, if◌then◌else◌}
 use Rattle.words.specs.Writing.{put}
 use Rattle.text.specs.Text.{reports_most, end_most}
 use Rattle.listing.specs.Listing.{Feed, feed_byte}

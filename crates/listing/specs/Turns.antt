@@ -1,6 +1,5 @@
 -- What the functions below `list_part` promise. Assumes nothing.
-use Rattle.std.specs.Prelude.{ℕ, ◌≤◌, ◌<◌, ◌≡◌, true, List, [], ◌++◌, eqb, length, drop}
-use Rattle.base.specs.Choice.{if◌then◌else◌}
+use Rattle.std.specs.Prelude.{ℕ, ◌≤◌, ◌<◌, ◌≡◌, true, List, [], ◌++◌, eqb, length, drop, if◌then◌else◌}
 use Rattle.events.specs.declared.Event.{Event}
 use Rattle.reports.specs.declared.Counts.{Counts}
 use Rattle.link.specs.declared.Link.{Link}

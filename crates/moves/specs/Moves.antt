@@ -1,8 +1,7 @@
 -- What time, a closing event, a start and a byte do to a link: each rule is a move, a report (none if its number is 0) and the phase after it
 -- (document 01, "Events and what the link does"; document 02, "One", on the idle time, and "Five", on cars).
 -- Assumes nothing.
-use Rattle.std.specs.Prelude.{ℕ, Bool, not, ◌&&◌, eqb}
-use Rattle.base.specs.Choice.{if◌then◌else◌}
+use Rattle.std.specs.Prelude.{ℕ, Bool, not, ◌&&◌, eqb, if◌then◌else◌}
 use Rattle.base.specs.Reports.{frame_report, damage_report, connected_report, failed_report, outside_report, no_reply_report, down_report, not_idle_report}
 use Rattle.base.specs.Reports.{no_reason, closed, window_over, wrong_low, stopped, idle_over, dropped}
 use Rattle.units.specs.Units.{micros, is_earlier, gap_of}

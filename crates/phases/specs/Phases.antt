@@ -1,8 +1,7 @@
 -- What a link is at: its state by name, beside what each state uses. What a state of a connected link does not use is carried along.
 -- (document 01, "Events and what the link does"; document 02, "One", on the idle time)
 -- Assumes nothing.
-use Rattle.std.specs.Prelude.{ℕ, Bool, true, false}
-use Rattle.base.specs.Choice.{if◌then◌else◌}
+use Rattle.std.specs.Prelude.{ℕ, Bool, true, false, if◌then◌else◌}
 use Rattle.base.specs.Reports.{no_reason}
 use Rattle.units.specs.Units.{micros}
 use Rattle.units.specs.declared.Micros.{Micros}

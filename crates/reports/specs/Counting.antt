@@ -1,7 +1,6 @@
 -- The seven counts (document 01, "Counts: bytes heard, bytes in reports 1, 2, 3 with 4, and 5; reports 1; reports 2").
 -- Assumes nothing.
-use Rattle.std.specs.Prelude.{ℕ, Bool, ◌||◌, List, [], ◌∷◌, eqb, leb, ltb}
-use Rattle.base.specs.Choice.{if◌then◌else◌}
+use Rattle.std.specs.Prelude.{ℕ, Bool, ◌||◌, List, [], ◌∷◌, eqb, leb, ltb, if◌then◌else◌}
 use Rattle.base.specs.Sums.{count_sum}
 use Rattle.base.specs.Reports.{frame_report, damage_report, connected_report, failed_report, outside_report}
 use Rattle.reports.specs.Reporting.{listed}

@@ -1,8 +1,7 @@
 -- Reports: what one says, and how the move that it comes from is made (document 01, "Events and what the link does"). One definition makes a report, one
 -- appends it.
 -- Assumes nothing.
-use Rattle.std.specs.Prelude.{ℕ, ◌-◌, Bool, List, [], ◌∷◌, eqb, leb, take}
-use Rattle.base.specs.Choice.{if◌then◌else◌}
+use Rattle.std.specs.Prelude.{ℕ, ◌-◌, Bool, List, [], ◌∷◌, eqb, leb, take, if◌then◌else◌}
 use Rattle.units.specs.Units.{micros}
 use Rattle.phases.specs.declared.Phase.{Phase}
 use Rattle.moves.specs.declared.Move.{Move}

@@ -1,8 +1,7 @@
 -- The two initializations (document 01, "Slow." and "Fast."; ISO 14230-2, clauses 5.2.4.2.2 and 5.2.4.2.3), as the stages that each goes through.
 -- What is expected of the next byte is told by the stage: who sends it, how early and how late it may start, and which values fit.
 -- Assumes nothing.
-use Rattle.std.specs.Prelude.{ℕ, ◌-◌, Bool, true, false, not, ◌&&◌, ◌||◌, eqb}
-use Rattle.base.specs.Choice.{if◌then◌else◌}
+use Rattle.std.specs.Prelude.{ℕ, ◌-◌, Bool, true, false, not, ◌&&◌, ◌||◌, eqb, if◌then◌else◌}
 use Rattle.base.specs.Sums.{byte_sum}
 use Rattle.base.specs.Reports.{no_reason, wrong_side, too_early, misfit}
 use Rattle.units.specs.Units.{micros, is_earlier}

@@ -11,7 +11,7 @@ use borrow.Author.Tests.{eqb-true, eqb-false, ne_eqb, lt-ltb, le-ltb}
 use lib.Dec.{eqb}
 use lib.ListN.{length, get_or, take, length-append, get_or-eq_default}
 use lib.Seq.{take-append-add, get_or-append-add, get_or-append_seam, append_snoc}
-use Rattle.base.specs.Choice.{if◌then◌else◌}
+use Rattle.std.specs.Prelude.{if◌then◌else◌}
 use Rattle.base.specs.Numbers.{taken, bad_form, bad_length, bad_checksum}
 use Rattle.base.specs.Reports.{no_reason, mode_one, wrong_form, wrong_length, wrong_sum}
 use Rattle.base.specs.Sums.{byte_sum}

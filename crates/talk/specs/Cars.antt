@@ -2,8 +2,7 @@
 -- checksum". No byte is kept but the last one (in `length`: there is none); beside it how many came, up to 12, the sum of those before the last, and whether
 -- the head is wrong.
 -- Assumes nothing.
-use Rattle.std.specs.Prelude.{ℕ, ◌+◌, Bool, false, not, ◌&&◌, ◌||◌, eqb, leb, ltb}
-use Rattle.base.specs.Choice.{if◌then◌else◌}
+use Rattle.std.specs.Prelude.{ℕ, ◌+◌, Bool, false, not, ◌&&◌, ◌||◌, eqb, leb, ltb, if◌then◌else◌}
 use Rattle.base.specs.Sums.{byte_sum}
 use Rattle.base.specs.Reports.{no_reason, wrong_form, wrong_length, wrong_sum}
 use Rattle.events.specs.Events.{is_tester}

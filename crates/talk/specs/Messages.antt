@@ -1,6 +1,5 @@
 -- Bytes of one side that are a message which ends in a frame, by the link's rules for its bytes one by one (document 01, "Connected."). Assumes nothing.
-use Rattle.std.specs.Prelude.{ℕ, Bool, false, not, List, [], ◌∷◌, eqb, length}
-use Rattle.base.specs.Choice.{if◌then◌else◌}
+use Rattle.std.specs.Prelude.{ℕ, Bool, false, not, List, [], ◌∷◌, eqb, length, if◌then◌else◌}
 use Rattle.base.specs.Reports.{no_reason}
 use Rattle.events.specs.declared.Side.{Side}
 use Rattle.talk.specs.Talk.{head_reason, begun, later_reason, is_sum, grown}

@@ -1,8 +1,7 @@
 -- Messages of a connected link, byte by byte, and what a frame does (document 01, "Connected."; ISO 14230-2, clause 4). No byte of a message is kept but
 -- its first seven data bytes. A car's message (document 02, "Five") is one whose part is `Free`; what is its own stands in Cars.antt.
 -- Assumes nothing.
-use Rattle.std.specs.Prelude.{ℕ, ◌+◌, ◌-◌, ◌*◌, ◌/◌, ◌%◌, ◌^◌, Bool, true, false, not, ◌&&◌, ◌||◌, List, [], ◌∷◌, eqb, ltb, length}
-use Rattle.base.specs.Choice.{if◌then◌else◌}
+use Rattle.std.specs.Prelude.{ℕ, ◌+◌, ◌-◌, ◌*◌, ◌/◌, ◌%◌, ◌^◌, Bool, true, false, not, ◌&&◌, ◌||◌, List, [], ◌∷◌, eqb, ltb, length, if◌then◌else◌}
 use Rattle.base.specs.Numbers.{taken}
 use Rattle.base.specs.Sums.{byte_sum}
 use Rattle.base.specs.Reports.{no_reason, broken_off, early, stray, mode_one, wrong_form, other_side, wrong_length, wrong_sum}

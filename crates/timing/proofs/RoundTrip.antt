@@ -7,7 +7,7 @@ use Prim.Native.Nat.{ℕ, ◌/◌, ◌≤◌, ◌<◌}
 use native.Mathlib.Omega.{arith}
 use borrow.Author.Tests.{eqb-true, le-leb, leb-true, eq-eqb}
 use lib.Dec.{eqb, leb}
-use Rattle.base.specs.Choice.{if◌then◌else◌}
+use Rattle.std.specs.Prelude.{if◌then◌else◌}
 use Rattle.base.specs.Numbers.{taken}
 use Rattle.base.proofs.Tests.{and_split, taken_by, up_to, at_each, by_test}
 use Rattle.units.specs.Units.{byte_of, whole_steps, half_of, steps25_of, steps250_of, is_same}

@@ -3,8 +3,7 @@
 -- Its table 5 prints 83 600 ms for FE: by its own rule, and document 01's, FE is 14 times 6,400 ms, 89,600. Clause 4.5.2 (a reply 7F xx 78 stretches
 -- P2 max) is no rule of document 01, and none here.
 -- Assumes nothing.
-use Rattle.std.specs.Prelude.{ℕ, ◌+◌, ◌*◌, ◌/◌, ◌%◌, Bool, ◌&&◌, ◌||◌, not, eqb, leb}
-use Rattle.base.specs.Choice.{if◌then◌else◌}
+use Rattle.std.specs.Prelude.{ℕ, ◌+◌, ◌*◌, ◌/◌, ◌%◌, Bool, ◌&&◌, ◌||◌, not, eqb, leb, if◌then◌else◌}
 use Rattle.base.specs.Numbers.{taken, bad_timing}
 use Rattle.keys.specs.Keys.{is_extended}
 use Rattle.keys.specs.Editions.{edition_of}

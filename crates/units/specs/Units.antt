@@ -1,8 +1,7 @@
 -- Microseconds, and the steps of 0.5, 25 and 250 ms that timing codes count in (document 01, "Timing"; the resolutions of ISO 14230-2, tables 3 and 5).
 -- "Code steps and microseconds stay apart until this rule converts one into the other": this file is that rule, and the only one.
 -- Assumes nothing.
-use Rattle.std.specs.Prelude.{ℕ, ◌-◌, ◌*◌, ◌/◌, Bool, eqb, leb, ltb}
-use Rattle.base.specs.Choice.{if◌then◌else◌}
+use Rattle.std.specs.Prelude.{ℕ, ◌-◌, ◌*◌, ◌/◌, Bool, eqb, leb, ltb, if◌then◌else◌}
 use Rattle.units.specs.declared.Micros.{Micros}
 use Rattle.units.specs.declared.HalfMs.{HalfMs}
 use Rattle.units.specs.declared.Step25.{Step25}

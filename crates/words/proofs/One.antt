@@ -5,7 +5,7 @@ use mathlib.Core.List.{List}
 use Prim.Native.Nat.{ℕ, ◌+◌}
 use lib.Dec.{leb}
 use lib.ListN.{length, drop}
-use Rattle.base.specs.Choice.{if◌then◌else◌}
+use Rattle.std.specs.Prelude.{if◌then◌else◌}
 use Rattle.base.proofs.One.{Only, only, only_both}
 use Rattle.words.specs.Digits.{is_digit, hex_of}
 use Rattle.words.specs.Reading.{start_of, is_end, first_word, word_at, byte_at, number_at, bytes_at, pairs, ReadsBytes}

@@ -1,6 +1,5 @@
 -- Digits, read from bytes and written as bytes. Assumes nothing.
-use Rattle.std.specs.Prelude.{ℕ, ◌+◌, ◌-◌, ◌*◌, ◌/◌, ◌%◌, Bool, ◌&&◌, leb, ltb}
-use Rattle.base.specs.Choice.{if◌then◌else◌}
+use Rattle.std.specs.Prelude.{ℕ, ◌+◌, ◌-◌, ◌*◌, ◌/◌, ◌%◌, Bool, ◌&&◌, leb, ltb, if◌then◌else◌}
 
 unfoldable pub is_digit : ℕ → Bool
 is_digit b = leb 0x30 b && leb b 0x39

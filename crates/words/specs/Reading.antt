@@ -1,8 +1,7 @@
 -- Words read at a place of a line. A word other than the first is read with the space before it, so that a place is where one word has ended and the
 -- next begins with its space. 0 is the place of what was not read: nothing is read from there on. In quotation marks: README, "Questions".
 -- Assumes nothing.
-use Rattle.std.specs.Prelude.{ℕ, zero, suc, ◌+◌, ◌-◌, ◌*◌, ◌/◌, ◌%◌, ◌≡◌, Bool, true, false, ◌&&◌, ◌||◌, not, List, [], ◌∷◌, ◌++◌, eqb, leb, ltb, length, get_or, drop}
-use Rattle.base.specs.Choice.{if◌then◌else◌}
+use Rattle.std.specs.Prelude.{ℕ, zero, suc, ◌+◌, ◌-◌, ◌*◌, ◌/◌, ◌%◌, ◌≡◌, Bool, true, false, ◌&&◌, ◌||◌, not, List, [], ◌∷◌, ◌++◌, eqb, leb, ltb, length, get_or, drop, if◌then◌else◌}
 use Rattle.base.specs.Sums.{greatest}
 use Rattle.words.specs.Digits.{is_digit, is_hex, pair_of}
 use Rattle.words.specs.Writing.{space, dash, put}

@@ -7,7 +7,7 @@ use mathlib.Core.Path.{◌≡◌, ◌∙◌, refl, sym, ap, subst}
 use native.Mathlib.Omega.{arith}
 use borrow.Author.Tests.{ltb-false, le-ltb}
 use lib.Dec.{eqb}
-use Rattle.base.specs.Choice.{if◌then◌else◌}
+use Rattle.std.specs.Prelude.{if◌then◌else◌}
 use Rattle.base.specs.Reports.{no_reason, wrong_side, too_early, misfit}
 use Rattle.base.proofs.Tests.{by_test}
 use Rattle.units.specs.Units.{gap_of}

@@ -9,7 +9,7 @@ use mathlib.Core.Logic.{◌↔◌, inr, ◌⊎◌, inl}
 use native.Mathlib.Omega.{arith}
 use lib.ListN.{take, drop, length-drop}
 use lib.Seq.{take_all, get_or-drop}
-use Rattle.base.specs.Choice.{if◌then◌else◌}
+use Rattle.std.specs.Prelude.{if◌then◌else◌}
 use Rattle.base.specs.Reports.{damage_report, no_reason, closed, early, stray}
 use Rattle.units.specs.Units.{gap_of}
 use Rattle.units.specs.declared.Micros.{Micros}

@@ -12,7 +12,7 @@ use borrow.Author.Tests.{eqb-true, eqb-false, eq-eqb, ne_eqb, ltb-true, ltb-fals
 use lib.Dec.{eqb, leb, ltb}
 use lib.ListN.{length, length-append, get_or-append}
 use lib.Seq.{get_or_at}
-use Rattle.base.specs.Choice.{if◌then◌else◌}
+use Rattle.std.specs.Prelude.{if◌then◌else◌}
 use Rattle.base.specs.Sums.{byte_sum}
 use Rattle.base.specs.Reports.{no_reason, mode_one, wrong_form, other_side, wrong_length, wrong_sum}
 use Rattle.keys.specs.Keys.{takes_form, length_in_format, extra_length, no_addresses, with_addresses, is_extended}

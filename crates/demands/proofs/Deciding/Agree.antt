@@ -6,7 +6,7 @@ use mathlib.Core.Logic.{⊎_elim, inl, inr}
 use mathlib.Core.Path.{◌≡◌, refl, sym, ap, ◌∙◌, subst}
 use lib.Dec.{eqb}
 use lib.ListN.{length}
-use Rattle.base.specs.Choice.{if◌then◌else◌}
+use Rattle.std.specs.Prelude.{if◌then◌else◌}
 use Rattle.base.specs.Numbers.{taken}
 use Rattle.base.specs.Reports.{connected_report, failed_report, down_report, frame_report}
 use Rattle.base.proofs.Tests.{by_test}

@@ -10,7 +10,7 @@ use mathlib.Core.Logic.{⊎_elim}
 use native.Mathlib.Omega.{arith}
 use borrow.Author.Tests.{eqb-false}
 use lib.Dec.{eqb, leb}
-use Rattle.base.specs.Choice.{if◌then◌else◌}
+use Rattle.std.specs.Prelude.{if◌then◌else◌}
 use Rattle.base.specs.Sums.{greatest}
 use Rattle.base.specs.Reports.{damage_report, failed_report, down_report, no_reason, closed}
 use Rattle.base.proofs.Tests.{by_test}

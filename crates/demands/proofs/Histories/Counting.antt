@@ -9,7 +9,7 @@ use native.Mathlib.Omega.{arith}
 use borrow.Author.Tests.{eqb-true}
 use lib.Dec.{eqb}
 use lib.ListN.{length, length-append}
-use Rattle.base.specs.Choice.{if◌then◌else◌}
+use Rattle.std.specs.Prelude.{if◌then◌else◌}
 use Rattle.base.specs.Sums.{greatest, count_sum}
 use Rattle.base.specs.Reports.{frame_report, damage_report, connected_report, failed_report, outside_report}
 use Rattle.reports.specs.Reporting.{listed}

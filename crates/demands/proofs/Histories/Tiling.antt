@@ -9,7 +9,7 @@ use native.Mathlib.Nat.{add-zero}
 use native.Mathlib.Omega.{arith}
 use borrow.Author.Tests.{le-leb}
 use lib.Dec.{eqb}
-use Rattle.base.specs.Choice.{if◌then◌else◌}
+use Rattle.std.specs.Prelude.{if◌then◌else◌}
 use Rattle.base.specs.Sums.{greatest, count_sum}
 use Rattle.base.specs.Reports.{frame_report, damage_report, connected_report, failed_report, outside_report, dropped, restarted}
 use Rattle.base.proofs.Tests.{by_test}

@@ -8,7 +8,7 @@ use mathlib.Core.Path.{◌≡◌, refl, sym, ap}
 use native.Mathlib.Omega.{arith}
 use borrow.Author.Tests.{ltb-true, lt-ltb, leb-true, le-leb, eqb-false}
 use lib.Dec.{eqb, leb, ltb}
-use Rattle.base.specs.Choice.{if◌then◌else◌}
+use Rattle.std.specs.Prelude.{if◌then◌else◌}
 use Rattle.base.specs.Numbers.{taken, unknown, too_late, out_of_order, too_many}
 use Rattle.units.specs.Units.{is_earlier}
 use Rattle.units.specs.declared.Micros.{Micros}

@@ -8,7 +8,7 @@ use mathlib.Core.Path.{◌≡◌, refl, ap, ◌∙◌, subst}
 use mathlib.Core.Logic.{⊎_elim}
 use native.Mathlib.Omega.{arith}
 use lib.Dec.{eqb, leb}
-use Rattle.base.specs.Choice.{if◌then◌else◌}
+use Rattle.std.specs.Prelude.{if◌then◌else◌}
 use Rattle.base.specs.Sums.{greatest}
 use Rattle.base.specs.Reports.{failed_report, window_over, closed, wrong_low, wrong_side, too_early, misfit}
 use Rattle.events.specs.declared.Event.{Event}

@@ -10,7 +10,7 @@ use mathlib.Core.Path.{◌≡◌, refl, sym, ap, subst}
 use native.Mathlib.Omega.{arith}
 use borrow.Author.Tests.{eqb-true, eqb-false, leb-true, ltb-true}
 use lib.Dec.{eqb, ltb, leb}
-use Rattle.base.specs.Choice.{if◌then◌else◌}
+use Rattle.std.specs.Prelude.{if◌then◌else◌}
 use Rattle.base.specs.Numbers.{taken}
 use Rattle.base.specs.Reports.{failed_report, down_report}
 use Rattle.base.proofs.Tests.{and_split}

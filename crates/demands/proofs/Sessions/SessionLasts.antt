@@ -10,7 +10,7 @@ use native.Mathlib.Omega.{arith}
 use lib.Dec.{eqb}
 use lib.ListN.{length, take, drop, length-drop}
 use lib.Seq.{drop-append-le, take_at}
-use Rattle.base.specs.Choice.{if◌then◌else◌}
+use Rattle.std.specs.Prelude.{if◌then◌else◌}
 use Rattle.base.specs.Reports.{frame_report, damage_report, no_reply_report, down_report, no_reason, closed, early, stray, stopped, idle_over, dropped}
 use Rattle.base.specs.Numbers.{taken}
 use Rattle.base.proofs.Tests.{and_split, by_test}

@@ -12,7 +12,7 @@ use lib.Dec.{eqb, ltb}
 use lib.ListN.{length}
 use Rattle.base.specs.Sums.{count_sum, byte_sum}
 use Rattle.base.specs.Numbers.{taken}
-use Rattle.base.specs.Choice.{if◌then◌else◌}
+use Rattle.std.specs.Prelude.{if◌then◌else◌}
 use Rattle.base.proofs.Tests.{and_split}
 use Rattle.base.specs.Reports.{frame_report, connected_report, failed_report, outside_report, not_idle_report, window_over}
 use Rattle.units.specs.Units.{micros}
