@@ -7,12 +7,12 @@ use Rattle.list_events.proofs.Laws.{none_fed, turn}
 use Rattle.list_events.proofs.list.Goals as goal
 
 pub loop-at-init : goal.loop-at-init
-loop-at-init g c = record { within = omega arith; room = refl; fed = none_fed c.args.l c.args.s.now; }
+loop-at-init g c = record { within = omega arith; room = refl; fed = none_fed c.args.l c.args.s.now }
 
 pub overflow_add-at : goal.overflow_add-at
 overflow_add-at g c =
     let t = turn c.args.l c.loop-at.x c.args.s.now c.loop-at.out c.loop-at.at c.list_part-p.result c.list_part-p.new.out
-            c.loop-at-test.true (omega (arith, c.requires, c.loop-at.invariant.room)) c.list_part-p.ensures c.loop-at.invariant.fed in
+    c.loop-at-test.true (omega (arith, c.requires, c.loop-at.invariant.room)) c.list_part-p.ensures c.loop-at.invariant.fed in
     omega (arith, t.within)
 
 pub slice_bounds-send-end : goal.slice_bounds-send-end
@@ -24,17 +24,17 @@ slice_bounds-send-end-in-loop-at g c = sym (length-take-le _ _ (part_inside _ _ 
 pub returns-then-not-is_sent : goal.returns-then-not-is_sent
 returns-then-not-is_sent g c =
     let t = turn c.args.l c.loop-at.x c.args.s.now c.loop-at.out c.loop-at.at c.list_part-p.result c.list_part-p.new.out
-            c.loop-at-test.true (omega (arith, c.requires, c.loop-at.invariant.room)) c.list_part-p.ensures c.loop-at.invariant.fed in
-    record { lister = t.same; all = λ e. absurd (false≢true e); }
+    c.loop-at-test.true (omega (arith, c.requires, c.loop-at.invariant.room)) c.list_part-p.ensures c.loop-at.invariant.fed in
+    record { lister = t.same; all = λ e. absurd (false≢true e) }
 
 pub loop-at-smaller : goal.loop-at-smaller
 loop-at-smaller g c =
     let t = turn c.args.l c.loop-at.x c.args.s.now c.loop-at.out c.loop-at.at c.list_part-p.result c.list_part-p.new.out
-            c.loop-at-test.true (omega (arith, c.requires, c.loop-at.invariant.room)) c.list_part-p.ensures c.loop-at.invariant.fed in
+    c.loop-at-test.true (omega (arith, c.requires, c.loop-at.invariant.room)) c.list_part-p.ensures c.loop-at.invariant.fed in
     omega (arith, t.some, t.within)
 
 pub loop-at-preserved : goal.loop-at-preserved
 loop-at-preserved g c =
     let t = turn c.args.l c.loop-at.x c.args.s.now c.loop-at.out c.loop-at.at c.list_part-p.result c.list_part-p.new.out
-            c.loop-at-test.true (omega (arith, c.requires, c.loop-at.invariant.room)) c.list_part-p.ensures c.loop-at.invariant.fed in
-    record { within = t.within; room = rw (part_kept _ _ _ _ _ c.list_part-p.ensures) c.loop-at.invariant.room; fed = t.same; }
+    c.loop-at-test.true (omega (arith, c.requires, c.loop-at.invariant.room)) c.list_part-p.ensures c.loop-at.invariant.fed in
+    record { within = t.within; room = rw (part_kept _ _ _ _ _ c.list_part-p.ensures) c.loop-at.invariant.room; fed = t.same }
