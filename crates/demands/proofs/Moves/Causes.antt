@@ -43,7 +43,7 @@ use Rattle.demands.specs.Endings.{Starter}
 use Rattle.demands.proofs.Histories.Holding.{framed_quiet}
 use Rattle.demands.proofs.Moves.ReportsInList.{each_none, each_both, tells_left, tells_right, move_tells, EachOf, Makes, silent, move_each}
 use Rattle.demands.proofs.Moves.Entering.{In, Open, judges, Completes, judging, has_idled, Leads, begins_slow, begins_fast, waits}
-use Rattle.demands.proofs.Moves.Entering.{grows as Goes-Further}
+use Rattle.demands.proofs.Moves.Entering.{grows as goes_further}
 use Rattle.demands.proofs.Moves.TimePasses.{Waited, Idled, Over, Lasts, First, found, Second, Third, Fourth, Left, IsDown, due_second, due_third, due_fourth, idled_up}
 use Rattle.demands.proofs.Moves.TimePasses.{Come, uncut, cut, up_come, in_come, down_come, open_come, still_in_come, is_down_come}
 use Rattle.demands.proofs.Moves.TimePasses.{first_rule, second_rule, third_rule, fourth_rule, in_left, still_in, up_left, open_left, still_up, still_open}
@@ -293,7 +293,7 @@ module _ (l : Link) (e : Event) where
       (record { after = (λ i. absurd (false≢true i), λ _. inr c); stops_up = λ _ r. absurd (false≢true r) }, λ _. c)
   byte_rule q m k j (goes_on s v z) =
       let x = in_come _ e p j (starting_is s) in
-      let g = Goes-Further k x.1 (open_window x.2 x.1) (sym (ap (judges l e) x.0) ∙ eqb-true (judges l e q) no_reason v)
+      let g = goes_further k x.1 (open_window x.2 x.1) (sym (ap (judges l e) x.0) ∙ eqb-true (judges l e q) no_reason v)
       (sym (ap (λ (y : Phase). is_last y.start.stage) x.0) ∙ z) in (
         record {
           after = (

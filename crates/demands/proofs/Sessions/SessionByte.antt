@@ -43,7 +43,7 @@ use Rattle.phases.proofs.StateTests.{quiet_is}
 use Rattle.moves.specs.Moves.{still, makes, loss_reason, reason_at_first}
 use Rattle.moves.specs.declared.Move.{Move}
 use Rattle.moves.proofs.Rules.{at_byte, at_stop, Rule, rests, strays, misses, connects, goes_on, opens, errs, breaks, frames, one_move}
-use Rattle.moves.proofs.Rules.{stops as Stopped-by}
+use Rattle.moves.proofs.Rules.{stops as stopped_by}
 use Rattle.moves.proofs.Rules.{grows as lengthens}
 use Rattle.reports.specs.Reporting.{names_bytes, report_of, told, moved}
 use Rattle.reports.specs.declared.Report.{Report}
@@ -180,7 +180,7 @@ module _ (es : Log) (e : Event) (all : List Report) (kind : e.kind ≡ Byte) (nu
       → Heard t r (still q)
   unfolding tells moved is_among talk_after
   silent_byte t r q l f n (rests u) _ = still_up refl (each_none (Told es e all t)) f
-  silent_byte t r q l f n (Stopped-by s x) _ = absurd (false≢true (sym l ∙ quiet_is s))
+  silent_byte t r q l f n (stopped_by s x) _ = absurd (false≢true (sym l ∙ quiet_is s))
 
   -- ---- the first byte of a message
   module _ (t : Talk) (p : Phase) (named heard : ℕ) (a : At es t p named heard) (quiet : is_quiet p.state ≡ true) (s : Session ours (es ▷ e) t)
@@ -608,7 +608,7 @@ module _ (es : Log) (e : Event) (all : List Report) (kind : e.kind ≡ Byte) (nu
           → (is_stopped q.request ≡ false → Fits with_frame q × (e.side ≡ Unit → Stops → ⊥)) → Heard t r (makes frame_report no_reason q)
       unfolding moved told
       frame_by q st f g n (rests u) _ = let k = g (off_second (is_quiet q.state) (is_stopped q.request) u (quiet_is st)) in frame_on q st k.0 k.1
-      frame_by q st f g n (Stopped-by s x) i = let k = f x in frame_over q k.0 k.1 i
+      frame_by q st f g n (stopped_by s x) i = let k = f x in frame_over q k.0 k.1 i
 
       frame_asked : is_tester e.side ≡ true → Heard t r (makes frame_report no_reason (asked r.phase))
       unfolding asked timed talking
@@ -664,7 +664,7 @@ module _ (es : Log) (e : Event) (all : List Report) (kind : e.kind ≡ Byte) (nu
         (each_none (Told es e all t)),
     refl,
   )
-  outside t r n (Stopped-by s x) = absurd (false≢true (ap is_quiet s))
+  outside t r n (stopped_by s x) = absurd (false≢true (ap is_quiet s))
 
   pub byte_outside : (t : Talk) (r : Run) (m : Move) → Rule mark e r.phase at_byte m → r.phase.state ≡ Down → Outside t r m
   byte_outside t r m u q = subst (Outside t r) (one_move mark e r.phase (strays q) u) (outside t r)
