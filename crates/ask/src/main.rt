@@ -5,11 +5,12 @@
 
 ghost use Rattle.std.specs.Prelude.{◌≤◌, length};
 
-use failing::fail;
+use failures::Failure;
 use std::env::{Env, FillError};
-use std::io::Read;
+use std::io;
+use std::io::{Read, Write};
+use std::process::ExitCode;
 
-mod failing;
 mod lent;
 mod questions;
 
@@ -28,7 +29,7 @@ const FULL: usize = LARGE - ANSWER_MOST;
 struct Asked {
     heard: usize,
     waiting: usize,
-    whole: bool,
+    whole: io::Result<()>,
 }
 
 // So many bytes of a buffer, or all of them.
@@ -41,16 +42,10 @@ fn within(n: usize, s: &[u8]) -> usize
     s.len()
 }
 
-// Writes the front of a buffer to standard output, and answers whether all went out.
-fn send(rt: &(impl Print + Eprint + AllocGlobal), out: &[u8], waiting: usize) -> bool {
+// Writes the front of a buffer.
+fn send(to: &mut impl Write, out: &[u8], waiting: usize) -> io::Result<()> {
     let n = within(waiting, out);
-    match rt.write_all(&out[..n]) {
-        Ok(()) => true,
-        Err(error) => {
-            fail(rt, "ask: standard output", &error);
-            false
-        }
-    }
+    to.write_all(&out[..n])
 }
 
 // One byte more of the line at hand.
@@ -71,18 +66,12 @@ fn reply(line: &[u8], heard: usize, out: &mut [u8], at: usize) -> usize {
 }
 
 // One byte more of the input: of a line, or the end of one, which is answered.
-fn hear(
-    rt: &(impl Print + Eprint + AllocGlobal),
-    b: u8,
-    a: Asked,
-    line: &mut [u8],
-    out: &mut [u8],
-) -> Asked {
+fn hear(to: &mut impl Write, b: u8, a: Asked, line: &mut [u8], out: &mut [u8]) -> Asked {
     if b != words::LINE_FEED {
         return Asked {
             heard: keep(line, a.heard, b),
             waiting: a.waiting,
-            whole: true,
+            whole: Ok(()),
         };
     }
     let n = reply(line, a.heard, out, a.waiting);
@@ -90,19 +79,19 @@ fn hear(
         return Asked {
             heard: 0,
             waiting: n,
-            whole: true,
+            whole: Ok(()),
         };
     }
     Asked {
         heard: 0,
         waiting: 0,
-        whole: send(rt, out, n),
+        whole: send(to, out, n),
     }
 }
 
 // A part of the input, byte after byte, as long as answers go out.
 fn hear_part(
-    rt: &(impl Print + Eprint + AllocGlobal),
+    to: &mut impl Write,
     part: &[u8],
     heard: usize,
     line: &mut [u8],
@@ -111,12 +100,12 @@ fn hear_part(
     let mut a = Asked {
         heard: heard,
         waiting: 0,
-        whole: true,
+        whole: Ok(()),
     };
     for b in part {
-        a = hear(rt, *b, a, line, out);
+        a = hear(to, *b, a, line, out);
         let whole = a.whole;
-        if !whole {
+        if whole.is_err() {
             return a;
         }
     }
@@ -124,46 +113,36 @@ fn hear_part(
 }
 
 // The input has ended: what is held of a last line is a line too.
-fn finish(rt: &(impl Print + Eprint + AllocGlobal), heard: usize, line: &[u8], out: &mut [u8]) {
+fn finish(to: &mut impl Write, heard: usize, line: &[u8], out: &mut [u8]) -> io::Result<()> {
     if 0 < heard {
         let n = reply(line, heard, out, 0);
-        send(rt, out, n);
+        return send(to, out, n);
     }
+    Ok(())
 }
 
 // Answers one read after another, each before the next. A proved loop has to end, and nothing says that
 // an input does: so it has a number of turns that no run uses up.
 fn ask_all(
-    rt: &(impl Print + Eprint + AllocGlobal),
     input: &mut impl Read,
+    to: &mut impl Write,
     buf: &mut [u8],
     line: &mut [u8],
     out: &mut [u8],
-) {
+) -> Result<(), Failure> {
     let mut heard = 0;
     for _ in 0..u64::MAX {
-        let n = match input.read(buf) {
-            Ok(n) => n,
-            Err(error) => {
-                fail(rt, "ask: the input", &error);
-                return;
-            }
-        };
+        let n = input.read(buf).map_err(Failure::Input)?;
         if n == 0 {
-            finish(rt, heard, line, out);
-            return;
+            return finish(to, heard, line, out).map_err(Failure::Output);
         }
-        let a = hear_part(rt, &buf[..n], heard, line, out);
+        let a = hear_part(to, &buf[..n], heard, line, out);
         let whole = a.whole;
-        if !whole {
-            return;
-        }
-        let is_sent = send(rt, out, a.waiting);
-        if !is_sent {
-            return;
-        }
+        whole.map_err(Failure::Output)?;
+        send(to, out, a.waiting).map_err(Failure::Output)?;
         heard = a.heard;
     }
+    Ok(())
 }
 
 // Whether the command line has an argument of this number.
@@ -195,15 +174,27 @@ fn gather(rt: &impl Env, line: &mut [u8]) -> usize {
     heard
 }
 
-fn main(rt: HostRuntime) {
+// Answers the question of the command line.
+fn ask_words(
+    rt: &impl Env,
+    to: &mut impl Write,
+    line: &mut [u8],
+    out: &mut [u8],
+) -> Result<(), Failure> {
+    let heard = gather(rt, line);
+    let n = reply(line, heard, out, 0);
+    send(to, out, n).map_err(Failure::Output)
+}
+
+fn main(rt: HostRuntime) -> ExitCode {
     let mut line = lent::line();
     let mut out = [0u8; LARGE];
-    if has_argument(&rt, 1) {
-        let heard = gather(&rt, &mut line);
-        let n = reply(&line, heard, &mut out, 0);
-        send(&rt, &out, n);
-        return;
-    }
-    let mut buf = [0u8; LARGE];
-    ask_all(&rt, &mut rt.stdin(), &mut buf, &mut line, &mut out);
+    let mut to = rt.stdout();
+    let outcome = if has_argument(&rt, 1) {
+        ask_words(&rt, &mut to, &mut line, &mut out)
+    } else {
+        let mut buf = [0u8; LARGE];
+        ask_all(&mut rt.stdin(), &mut to, &mut buf, &mut line, &mut out)
+    };
+    failures::end(&rt, "ask", outcome)
 }
