@@ -2,26 +2,26 @@
 // listing to standard output. It reads 64 KiB at a time and keeps nothing but the lister.
 #![tactic(auto)]
 
-ghost use Rattle.std.specs.Prelude.{◌≤◌, length};
+ghost use Rattle.std.specs.Prelude.{◌<◌, ◌≤◌, IfOk, IfSome, OnOk, length, take};
+ghost use Rattle.std.specs.Io.KnownBytes.{Appends, Consumes, prepend_known};
+ghost use Rattle.listing.specs.Listing.{ending_of, listing_of};
 ghost use Rattle.listing.specs.Parts.{answer_most, ending_most};
-ghost use Rattle.list_events.specs.Sending.{Listed};
+ghost use Rattle.list_events.specs.Sending.{HasRead, Listed, behind_head, said_by};
 
+use failures::Failure;
 use listing::Lister;
 use std::env::{Env, FillError};
-use std::io::Read;
+use std::io::{Read, Write};
+use std::process::ExitCode;
 use std::rt::Files;
 use std::{fs, io, str};
-
-mod failing;
-
-use failing::{fail, say};
 
 // The lister after so many bytes of a part, and whether all that was written went out.
 #[derive(Clone, Copy)]
 struct Sent {
     lister: Lister,
     at: usize,
-    whole: bool,
+    whole: Result<(), Failure>,
 }
 
 // How many bytes are read at a time, and written.
@@ -30,21 +30,26 @@ const LARGE: usize = 65_536;
 // The longest name of a file.
 const NAME_MOST: usize = 4096;
 
-// Writes to standard output, and answers whether all went out.
-fn send(rt: &(impl Print + Eprint + AllocGlobal), text: &[u8]) -> bool {
-    match rt.write_all(text) {
-        Ok(()) => true,
-        Err(error) => {
-            fail(rt, "list_events: standard output", &error);
-            false
-        }
-    }
+// Writes all of a text.
+fn send<W: Write>(to: &mut W, text: &[u8]) -> Result<(), Failure>
+    ensures { OnOk result (Appends (W.contents to.old) (W.contents to.new) text.now) }
+{
+    to.write_all(text).map_err(Failure::Output)
+}
+
+// Reads once, and answers how many bytes came.
+fn read_some<R: Read>(input: &mut R, buf: &mut [u8]) -> Result<usize, Failure>
+    ensures gave { IfOk result (λ n. Consumes (R.remaining input.old) (R.remaining input.new) (take n buf.new)) }
+    ensures read { 0 < length buf.old → IfOk result (λ n. HasRead (R.remaining input.new) n buf.new) }
+{
+    input.read(buf).map_err(Failure::Input)
 }
 
 // Lists a part of the input, one buffer after another.
-fn list(rt: &(impl Print + Eprint + AllocGlobal), l: Lister, s: &[u8], out: &mut [u8]) -> Sent
+fn list<W: Write>(to: &mut W, l: Lister, s: &[u8], out: &mut [u8]) -> Sent
     requires { answer_most ≤ length out.old }
-    ensures { Listed l s.now result }
+    ensures listed { Listed l s.now result }
+    ensures sent { OnOk result.whole (Appends (W.contents to.old) (W.contents to.new) (said_by l s.now)) }
 {
     let mut x = l;
     let mut at = 0;
@@ -53,94 +58,75 @@ fn list(rt: &(impl Print + Eprint + AllocGlobal), l: Lister, s: &[u8], out: &mut
         let n = p.put;
         x = p.lister;
         at = at + p.at;
-        let is_sent = send(rt, &out[..n]);
-        if !is_sent {
+        if let Err(error) = send(to, &out[..n]) {
             return Sent {
                 lister: x,
                 at: at,
-                whole: false,
+                whole: Err(error),
             };
         }
     }
     Sent {
         lister: x,
         at: at,
-        whole: true,
+        whole: Ok(()),
     }
 }
 
 // The input has ended. (The buffer has room for what is then written.)
-fn finish(rt: &(impl Print + Eprint + AllocGlobal), l: Lister, out: &mut [u8])
+fn finish<W: Write>(to: &mut W, l: Lister, out: &mut [u8]) -> Result<(), Failure>
     requires { ending_most ≤ length out.old }
+    ensures { OnOk result (Appends (W.contents to.old) (W.contents to.new) (ending_of l)) }
 {
     let n = listing::finish(l, out);
-    send(rt, &out[..n]);
+    send(to, &out[..n])
 }
 
-// Reads once, and answers how many bytes came, if the input can be read.
-fn read_some(
-    rt: &(impl Eprint + AllocGlobal),
-    input: &mut impl Read,
-    buf: &mut [u8],
-) -> Option<usize> {
-    match input.read(buf) {
-        Ok(n) => Some(n),
-        Err(error) => {
-            fail(rt, "list_events: the input", &error);
-            None
-        }
-    }
-}
-
-// Lists the input from a first read on, which gave `first` bytes. A proved loop has to end, and nothing
-// says that an input does: so it has a number of turns that no run uses up.
-fn list_all(
-    rt: &(impl Print + Eprint + AllocGlobal),
-    input: &mut impl Read,
+// Lists the input from a first read on, which gave `first` bytes: where nothing fails, all of the listing
+// behind its header goes out. A proved loop has to end, and nothing says that an input does: so it has a
+// number of turns that no run uses up.
+fn list_all<R: Read, W: Write>(
+    input: &mut R,
+    to: &mut W,
     first: usize,
     buf: &mut [u8],
     out: &mut [u8],
-)
+) -> Result<(), Failure>
     requires { ending_most ≤ length out.old }
+    ensures { HasRead (R.remaining input.old) first buf.old → OnOk result (IfSome (prepend_known (take first buf.old) (R.remaining input.old))
+        (λ bytes. Appends (W.contents to.old) (W.contents to.new) (behind_head bytes))) }
 {
     let mut l = listing::begin();
     let mut got = first;
     for _ in 0..u64::MAX {
         let n = got.min(buf.len());
         if n == 0 {
-            finish(rt, l, out);
-            return;
+            return finish(to, l, out);
         }
-        let r = list(rt, l, &buf[..n], out);
-        let whole = r.whole;
-        if !whole {
-            return;
-        }
+        let r = list(to, l, &buf[..n], out);
+        r.whole?;
         l = r.lister;
-        let Some(more) = read_some(rt, input, buf) else {
-            return;
-        };
-        got = more;
+        got = read_some(input, buf)?;
     }
+    Err(Failure::Input(io::Error::from(io::ErrorKind::TimedOut)))
 }
 
-// Lists an input that is open. Where not even a first read is possible there is no listing.
-fn list_open(
-    rt: &(impl Print + Eprint + AllocGlobal),
-    input: &mut impl Read,
+// Lists an input that is open: where nothing fails, the listing of all its bytes goes out, however they
+// are cut into reads. Where not even a first read is possible there is no listing.
+fn list_open<R: Read, W: Write>(
+    input: &mut R,
+    to: &mut W,
     buf: &mut [u8],
     out: &mut [u8],
-)
+) -> Result<(), Failure>
     requires { ending_most ≤ length out.old }
+    ensures { 0 < length buf.old → OnOk result (IfSome (R.remaining input.old)
+        (λ bytes. Appends (W.contents to.old) (W.contents to.new) (listing_of bytes))) }
 {
-    let Some(first) = read_some(rt, input, buf) else {
-        return;
-    };
+    let first = read_some(input, buf)?;
     let n = text::put_head(out, 0);
-    let is_sent = send(rt, &out[..n]);
-    if is_sent {
-        list_all(rt, input, first, buf, out);
-    }
+    send(to, &out[..n])?;
+    list_all(input, to, first, buf, out)
 }
 
 // Whether the command line has an argument of this number.
@@ -148,38 +134,43 @@ fn has_argument(rt: &impl Env, i: usize) -> bool {
     !matches!(rt.arg(i, &mut []), Err(FillError::NotPresent))
 }
 
-// The file that the one argument names.
+// The file that the one argument names; where there is none, says why.
 fn open_named<R: Files + Env + Eprint + AllocGlobal>(rt: &R) -> Option<R::File> {
     let mut path = [0u8; NAME_MOST];
     let Ok(n) = rt.arg(1, &mut path) else {
-        say(rt, "list_events: the file's name", "File name too long");
+        let _ = eprintln!(rt; "list_events: the file's name: File name too long");
         return None;
     };
     let Ok(name) = str::from_utf8(&path[..n]) else {
-        say(rt, "list_events: the file's name", "it is not UTF-8");
+        let _ = eprintln!(rt; "list_events: the file's name: it is not UTF-8");
         return None;
     };
     match fs::open(rt, name) {
         Ok(file) => Some(file),
         Err(error) => {
-            fail(rt, name, &error);
+            failures::say(rt, name, &error);
             None
         }
     }
 }
 
-fn main(rt: HostRuntime) {
+fn main(rt: HostRuntime) -> ExitCode {
     if has_argument(&rt, 2) {
         let _ = eprintln!(rt; "usage: list_events [FILE]");
-        return;
+        return ExitCode::FAILURE;
     }
+    let mut to = rt.stdout();
     let mut buf = [0u8; LARGE];
     let mut out = [0u8; LARGE];
     if !has_argument(&rt, 1) {
-        list_open(&rt, &mut rt.stdin(), &mut buf, &mut out);
-        return;
+        let outcome = list_open(&mut rt.stdin(), &mut to, &mut buf, &mut out);
+        return failures::end(&rt, "list_events", outcome);
     }
-    if let Some(mut file) = open_named(&rt) {
-        list_open(&rt, &mut file, &mut buf, &mut out);
+    match open_named(&rt) {
+        Some(mut file) => {
+            let outcome = list_open(&mut file, &mut to, &mut buf, &mut out);
+            failures::end(&rt, "list_events", outcome)
+        }
+        None => ExitCode::FAILURE,
     }
 }
