@@ -3,7 +3,7 @@
 // has read and 64 KiB of what it will write.
 #![tactic(auto)]
 
-ghost use Rattle.std.specs.Prelude.{◌≤◌, length};
+ghost use Rattle.std.specs.Counts.{IsPrefixLen};
 
 use failures::Failure;
 use std::env::{Env, FillError};
@@ -34,7 +34,7 @@ struct Asked {
 
 // So many bytes of a buffer, or all of them.
 fn within(n: usize, s: &[u8]) -> usize
-    ensures { result ≤ length s.now }
+    ensures { IsPrefixLen result s.now }
 {
     if n <= s.len() {
         return n;

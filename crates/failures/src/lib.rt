@@ -4,6 +4,7 @@
 
 ghost use Rattle.std.specs.Prelude.{◌≡◌, ◌↔◌, IsOk};
 ghost use Rattle.std.specs.Process.{exit_status};
+ghost use Rattle.failures.specs.Statuses.{status_of};
 
 use std::alloc::{AllocError, Global};
 use std::fmt::Display;
@@ -44,7 +45,8 @@ pub fn end(
     program: &str,
     outcome: Result<(), Failure>,
 ) -> ExitCode
-    ensures { (exit_status result ≡ 0) ↔ IsOk outcome }
+    ensures status { exit_status result ≡ status_of outcome }
+    ensures ok { (exit_status result ≡ 0) ↔ IsOk outcome }
 {
     match outcome {
         Ok(()) => ExitCode::SUCCESS,
@@ -52,12 +54,12 @@ pub fn end(
             say(rt, format_args!("{program}: the input"), &error);
             ExitCode::FAILURE
         }
-        Err(Failure::Output(error)) => {
-            if error.kind() == io::ErrorKind::BrokenPipe {
-                return ExitCode::from(READER_LEFT);
+        Err(Failure::Output(error)) => match error.kind() {
+            io::ErrorKind::BrokenPipe => ExitCode::from(READER_LEFT),
+            _ => {
+                say(rt, format_args!("{program}: standard output"), &error);
+                ExitCode::FAILURE
             }
-            say(rt, format_args!("{program}: standard output"), &error);
-            ExitCode::FAILURE
-        }
+        },
     }
 }

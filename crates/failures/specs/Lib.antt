@@ -1,0 +1,2 @@
+-- The definition that the promises cite.
+pub mod Statuses
