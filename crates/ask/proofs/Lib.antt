@@ -1,3 +1,2 @@
--- The laws of the lent buffers.
-pub mod Filled
+-- The laws of a frame that is built into a lent buffer.
 pub mod Built

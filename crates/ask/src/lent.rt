@@ -38,23 +38,12 @@ pub(crate) fn room() -> [u8; 20000]
 pub(crate) fn fill(room: &mut [u8])
     ensures { room.new ≡ replicate (length room.old) filling }
 {
-    let mut i = 0;
-    while i < room.len() {
-        room[i] = FILLING;
-        i += 1;
-    }
+    room.fill(FILLING);
 }
 
 // Whether a buffer is as it was filled, from a place on.
 pub(crate) fn is_untouched(room: &[u8], from: usize) -> bool
     ensures { result ≡ is_untouched (drop from room.now) }
 {
-    let mut i = from;
-    while i < room.len() {
-        if room[i] != FILLING {
-            return false;
-        }
-        i += 1;
-    }
-    true
+    room.iter().skip(from).all(|b| *b == FILLING)
 }

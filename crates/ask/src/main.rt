@@ -3,8 +3,6 @@
 // has read and 64 KiB of what it will write.
 #![tactic(auto)]
 
-ghost use Rattle.std.specs.Counts.{IsPrefixLen};
-
 use failures::Failure;
 use std::env::{Env, FillError};
 use std::io;
@@ -23,102 +21,87 @@ const ANSWER_MOST: usize = 600;
 // Where more bytes of answers wait, there might be no room for one more.
 const FULL: usize = LARGE - ANSWER_MOST;
 
-// How far it is: how many bytes of the line at hand were heard (one more than it may have, where it is
-// too long), how many bytes of answers wait, and whether all before them went out.
-#[derive(Clone, Copy)]
-struct Asked {
+// The line at hand: the room for its bytes, and how many of them were heard; one more than it may have,
+// where it is too long.
+#[derive(Drop)]
+struct Line<'a> {
+    room: &'a mut [u8],
     heard: usize,
-    waiting: usize,
-    whole: io::Result<()>,
 }
 
-// So many bytes of a buffer, or all of them.
-fn within(n: usize, s: &[u8]) -> usize
-    ensures { IsPrefixLen result s.now }
-{
-    if n <= s.len() {
-        return n;
+impl Line<'_> {
+    // One byte more.
+    fn keep(&mut self, b: u8) {
+        if self.heard < self.room.len() {
+            self.room[self.heard] = b;
+            self.heard += 1;
+        } else {
+            self.heard = self.room.len() + 1;
+        }
     }
-    s.len()
+
+    // One argument more of the command line.
+    fn keep_word(&mut self, rt: &impl Env, i: usize) {
+        if self.heard <= self.room.len() {
+            self.heard = match rt.arg(i, &mut self.room[self.heard..]) {
+                Ok(n) => self.heard + n,
+                Err(_) => self.room.len() + 1,
+            };
+        }
+    }
+
+    // The answer to it.
+    fn answer(&self, out: &mut [u8], at: usize) -> usize {
+        match self.room.get(..self.heard) {
+            Some(s) => questions::answer(s, out, at),
+            None => questions::put_unknown(out, at),
+        }
+    }
 }
 
 // Writes the front of a buffer.
 fn send(to: &mut impl Write, out: &[u8], waiting: usize) -> io::Result<()> {
-    let n = within(waiting, out);
-    to.write_all(&out[..n])
+    to.write_all(&out[..waiting.min(out.len())])
 }
 
-// One byte more of the line at hand.
-fn keep(line: &mut [u8], heard: usize, b: u8) -> usize {
-    if heard < line.len() {
-        line[heard] = b;
-        return heard + 1;
-    }
-    line.len() + 1
-}
-
-// The answer to a line.
-fn reply(line: &[u8], heard: usize, out: &mut [u8], at: usize) -> usize {
-    if line.len() < heard {
-        return questions::put_unknown(out, at);
-    }
-    questions::answer(&line[..heard], out, at)
-}
-
-// One byte more of the input: of a line, or the end of one, which is answered.
-fn hear(to: &mut impl Write, b: u8, a: Asked, line: &mut [u8], out: &mut [u8]) -> Asked {
-    if b != words::LINE_FEED {
-        return Asked {
-            heard: keep(line, a.heard, b),
-            waiting: a.waiting,
-            whole: Ok(()),
-        };
-    }
-    let n = reply(line, a.heard, out, a.waiting);
-    if n <= FULL {
-        return Asked {
-            heard: 0,
-            waiting: n,
-            whole: Ok(()),
-        };
-    }
-    Asked {
-        heard: 0,
-        waiting: 0,
-        whole: send(to, out, n),
-    }
-}
-
-// A part of the input, byte after byte, as long as answers go out.
-fn hear_part(
+// One byte more of the input: of a line, or the end of one, which is answered. Says how many bytes of
+// answers wait then: they go out where there might be no room for one more.
+fn hear(
     to: &mut impl Write,
-    part: &[u8],
-    heard: usize,
-    line: &mut [u8],
+    b: u8,
+    line: &mut Line,
     out: &mut [u8],
-) -> Asked {
-    let mut a = Asked {
-        heard: heard,
-        waiting: 0,
-        whole: Ok(()),
-    };
-    for b in part {
-        a = hear(to, *b, a, line, out);
-        let whole = a.whole;
-        if whole.is_err() {
-            return a;
-        }
+    waiting: usize,
+) -> io::Result<usize> {
+    if b != words::LINE_FEED {
+        line.keep(b);
+        return Ok(waiting);
     }
-    a
+    let n = line.answer(out, waiting);
+    line.heard = 0;
+    if n <= FULL {
+        return Ok(n);
+    }
+    send(to, out, n)?;
+    Ok(0)
+}
+
+// A part of the input, byte after byte, as long as answers go out; all that wait go out behind it.
+fn hear_part(to: &mut impl Write, part: &[u8], line: &mut Line, out: &mut [u8]) -> io::Result<()> {
+    let mut waiting = 0;
+    for b in part {
+        waiting = hear(to, *b, line, out, waiting)?;
+    }
+    send(to, out, waiting)
 }
 
 // The input has ended: what is held of a last line is a line too.
-fn finish(to: &mut impl Write, heard: usize, line: &[u8], out: &mut [u8]) -> io::Result<()> {
-    if 0 < heard {
-        let n = reply(line, heard, out, 0);
-        return send(to, out, n);
+fn finish(to: &mut impl Write, line: &Line, out: &mut [u8]) -> io::Result<()> {
+    if line.heard == 0 {
+        return Ok(());
     }
-    Ok(())
+    let n = line.answer(out, 0);
+    send(to, out, n)
 }
 
 // Answers one read after another, each before the next. A proved loop has to end, and nothing says that
@@ -127,67 +110,55 @@ fn ask_all(
     input: &mut impl Read,
     to: &mut impl Write,
     buf: &mut [u8],
-    line: &mut [u8],
+    line: &mut Line,
     out: &mut [u8],
 ) -> Result<(), Failure> {
-    let mut heard = 0;
     for _ in 0..u64::MAX {
         let n = input.read(buf).map_err(Failure::Input)?;
         if n == 0 {
-            return finish(to, heard, line, out).map_err(Failure::Output);
+            return finish(to, line, out).map_err(Failure::Output);
         }
-        let a = hear_part(to, &buf[..n], heard, line, out);
-        let whole = a.whole;
-        whole.map_err(Failure::Output)?;
-        send(to, out, a.waiting).map_err(Failure::Output)?;
-        heard = a.heard;
+        hear_part(to, &buf[..n], line, out).map_err(Failure::Output)?;
     }
     Ok(())
 }
 
-// Whether the command line has an argument of this number.
+// Whether the command line has an argument of this number. (The other program has these lines for itself: std says nothing of a
+// command line, so a public function could promise nothing.)
 fn has_argument(rt: &impl Env, i: usize) -> bool {
     !matches!(rt.arg(i, &mut []), Err(FillError::NotPresent))
 }
 
-// One argument more of the command line.
-fn keep_word(rt: &impl Env, line: &mut [u8], heard: usize, i: usize) -> usize {
-    if line.len() < heard {
-        return heard;
-    }
-    match rt.arg(i, &mut line[heard..]) {
-        Ok(n) => heard + n,
-        Err(_) => line.len() + 1,
-    }
-}
-
 // The arguments as a line, with a space between two.
-fn gather(rt: &impl Env, line: &mut [u8]) -> usize {
-    let mut heard = keep_word(rt, line, 0, 1);
+fn gather(rt: &impl Env, line: &mut Line) {
+    line.keep_word(rt, 1);
     for i in 2..usize::MAX {
         if !has_argument(rt, i) {
-            return heard;
+            return;
         }
-        let spaced = keep(line, heard, words::SPACE);
-        heard = keep_word(rt, line, spaced, i);
+        line.keep(words::SPACE);
+        line.keep_word(rt, i);
     }
-    heard
 }
 
 // Answers the question of the command line.
 fn ask_words(
     rt: &impl Env,
     to: &mut impl Write,
-    line: &mut [u8],
+    line: &mut Line,
     out: &mut [u8],
 ) -> Result<(), Failure> {
-    let heard = gather(rt, line);
-    let n = reply(line, heard, out, 0);
+    gather(rt, line);
+    let n = line.answer(out, 0);
     send(to, out, n).map_err(Failure::Output)
 }
 
 fn main(rt: HostRuntime) -> ExitCode {
-    let mut line = lent::line();
+    let mut room = lent::line();
+    let mut line = Line {
+        room: &mut room,
+        heard: 0,
+    };
     let mut out = [0u8; LARGE];
     let mut to = rt.stdout();
     let outcome = if has_argument(&rt, 1) {

@@ -1,3 +1,4 @@
 pub mod Tests
 pub mod One
 pub mod Sums
+pub mod Refusals

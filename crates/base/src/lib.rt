@@ -2,11 +2,37 @@
 // definitions), and sums and choices that several crates use.
 #![tactic(auto)]
 
-ghost use Rattle.std.specs.Prelude.{◌≡◌, ◌-◌, if◌then◌else◌};
+ghost use Rattle.std.specs.Prelude.{◌≡◌, if◌then◌else◌};
 ghost use Rattle.base.specs.Sums.{byte_sum, count_sum};
 
 pub mod reason;
 pub mod report;
+
+// Why a call refuses: each by the number that the caller may get back.
+#[derive(Clone, Copy, Debug, PartialEq, Eq)]
+pub enum Refusal {
+    Unknown = 1,
+    TooLate,
+    OutOfOrder,
+    TooMany,
+    BadKeys,
+    BadForm,
+    BadLength,
+    NoRoom,
+    BadChecksum,
+    BadTiming,
+}
+
+impl From<Refusal> for u8 {
+    ghost use Rattle.base.specs.Refusals.{number_of};
+
+    ghost from_gives = { λ why n. n ≡ number_of why };
+
+    #[tactic(auto, unfolding(crate::specs::Refusals::number_of))]
+    fn from(why: Refusal) -> u8 {
+        why as u8
+    }
+}
 
 pub const TAKEN: u8 = 0;
 
@@ -30,31 +56,11 @@ pub const BAD_CHECKSUM: u8 = 9;
 
 pub const BAD_TIMING: u8 = 10;
 
-// The greatest count.
-const GREATEST: u64 = 18_446_744_073_709_551_615;
-
-// One number less another, and 0 where that is more.
-pub fn less(a: u64, b: u64) -> u64
-    ensures { result ≡ a - b }
-{
-    if b <= a { a - b } else { 0 }
-}
-
-// One byte or another.
-pub fn either(first: bool, a: u8, b: u8) -> u8
+// One value or another.
+pub fn either<T: Copy>(first: bool, a: T, b: T) -> T
     ensures { result ≡ (if first then a else b) }
 {
     if first { a } else { b }
-}
-
-// One number or another.
-pub fn either64(first: bool, a: u64, b: u64) -> u64
-    ensures { result ≡ (if first then a else b) }
-{
-    if first {
-        return a;
-    }
-    b
 }
 
 // The sum of two bytes modulo 256.
@@ -62,7 +68,7 @@ pub fn either64(first: bool, a: u64, b: u64) -> u64
 pub fn byte_sum(a: u8, b: u8) -> u8
     ensures { result ≡ byte_sum a b }
 {
-    ((a as u16 + b as u16) % 256) as u8
+    a.wrapping_add(b)
 }
 
 // The sum of two counts, which stops at the greatest.
@@ -70,8 +76,5 @@ pub fn byte_sum(a: u8, b: u8) -> u8
 pub fn count_sum(a: u64, b: u64) -> u64
     ensures { result ≡ count_sum a b }
 {
-    if b <= GREATEST - a {
-        return a + b;
-    }
-    GREATEST
+    a.saturating_add(b)
 }

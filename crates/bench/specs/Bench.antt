@@ -2,18 +2,18 @@
 -- the single statement that each of its rows holds. Assumes nothing.
 use Rattle.std.specs.Prelude.{◌≡◌, true, false, List, [], ◌∷◌, ℕ, ◌-◌, ◌*◌, length}
 use Rattle.base.specs.Numbers.{taken, bad_keys, bad_form, bad_length, no_room}
-use Rattle.keys.specs.Keys.{good_pair}
+use Rattle.keys.specs.Keys.{good_pair, pair_of}
 use Rattle.units.specs.Units.{micros}
+use Rattle.timing.specs.Answers.{Decoded}
 use Rattle.timing.specs.Timing.{until_time, normal_set, p2_max_of, not_decoded, decoded_of}
 use Rattle.timing.specs.declared.Codes.{Codes}
-use Rattle.timing.specs.declared.Decoded.{Decoded}
 use Rattle.starts.specs.Starts.{complement as inverse}
 use Rattle.frame.specs.Build.{shortest, in_format_byte, in_extra_byte, planned, not_built, built_of}
 use Rattle.frame.specs.Read.{not_read, read_of, data_of}
 use Rattle.frame.specs.declared.Plan.{Plan}
 
 abbrev pub plan : ℕ → ℕ → ℕ → ℕ → ℕ → ℕ → Plan
-plan choice kb1 kb2 form target source = record { choice = choice; kb1 = kb1; kb2 = kb2; form = form; target = target; source = source }
+plan choice kb1 kb2 form target source = record { choice = choice; pair = pair_of kb1 kb2; form = form; target = target; source = source }
 
 abbrev pub codes : ℕ → ℕ → ℕ → ℕ → ℕ → Codes
 codes p2min p2max p3min p3max p4min = record { p2min = p2min; p2max = p2max; p3min = p3min; p3max = p3max; p4min = p4min }
@@ -39,9 +39,9 @@ unfoldable pub Says : Row → Type 0
 Says (frame p bytes made) =
     (built_of p (length bytes) (length made) ≡ record { no = taken; len = length made })
     × (planned p bytes ≡ made)
-    × (read_of p.kb1 p.kb2 made
+    × (read_of p.pair.kb1 p.pair.kb2 made
     ≡ record { no = taken; form = p.form; target = p.target; source = p.source; start = length made - length bytes - 1; len = length bytes })
-    × (data_of p.kb1 p.kb2 made ≡ bytes)
+    × (data_of p.pair.kb1 p.pair.kb2 made ≡ bytes)
 Says (refused p n room k) = built_of p n room ≡ not_built k
 Says (good kb1 kb2) = good_pair kb1 kb2 ≡ true
 Says (five kb1 kb2) =

@@ -1,186 +1,125 @@
 // Runs the values on the bench that are to be run, and prints what came beside what should.
 #![tactic(auto)]
 
-ghost use Rattle.std.specs.Prelude.{◌≤◌, IfOk};
+use base::Refusal;
+use keys::Pair;
+use std::{fmt, io};
 
-use std::io;
-
-// An answer of building: its number, its length, and the first four bytes of the buffer.
-#[derive(Clone, Copy)]
+// An answer of building: the frame's length or the refusal, and the first four bytes of the buffer.
+#[derive(Clone, Copy, PartialEq, Eq)]
 struct Answer {
-    no: u8,
-    len: usize,
-    first: u8,
-    second: u8,
-    third: u8,
-    fourth: u8,
+    built: Result<usize, Refusal>,
+    first: [u8; 4],
+}
+
+impl fmt::Display for Answer {
+    fn fmt<W: fmt::Write>(&self, f: &mut fmt::Formatter<W>) -> fmt::Result {
+        let (no, len) = match self.built {
+            Ok(len) => (0, len),
+            Err(why) => (u8::from(why), 0),
+        };
+        let [a, b, c, d] = self.first;
+        write!(f, "{no} {len} {a:02X} {b:02X} {c:02X} {d:02X}")
+    }
+}
+
+// A value to run: so many bytes under this KB1 by this choice, and the answer that is expected. A
+// choice is a number, since `build` takes any.
+#[derive(Clone, Copy)]
+struct Value {
+    choice: u8,
+    kb1: u8,
+    size: usize,
+    want: Answer,
 }
 
 // A byte that the buffer holds before anything is built into it.
 const UNTOUCHED: u8 = 0xAA;
 
-fn digit(n: u8) -> u8 {
-    if n % 16 < 10 {
-        return 48 + n % 16;
-    }
-    55 + n % 16
-}
-
-fn print_byte(rt: &impl Print, x: u8) -> io::Result<()> {
-    let text = [digit(x / 16), digit(x)];
-    rt.write_all(&text)
-}
-
-fn print_answer(rt: &impl Print, a: Answer) -> io::Result<()> {
-    let no = a.no;
-    let len = a.len;
-    print!(rt; "{no} {len} ")?;
-    print_byte(rt, a.first)?;
-    print!(rt; " ")?;
-    print_byte(rt, a.second)?;
-    print!(rt; " ")?;
-    print_byte(rt, a.third)?;
-    print!(rt; " ")?;
-    print_byte(rt, a.fourth)
-}
-
-fn same_answer(a: Answer, b: Answer) -> bool {
-    (a.no == b.no)
-        & (a.len == b.len)
-        & (a.first == b.first)
-        & (a.second == b.second)
-        & (a.third == b.third)
-        & (a.fourth == b.fourth)
-}
-
-fn at_most_64(n: usize) -> usize
-    ensures { result ≤ 64 }
-{
-    if n <= 64 {
-        return n;
-    }
-    64
-}
-
-// Builds n bytes of data, at most 64, in form 1 for 11 from F1, with the length in the place chosen,
-// and answers what came of it.
-fn built(choice: u8, kb1: u8, n: usize) -> Answer {
+// Builds the value's bytes, at most 64, in form 1 for 11 from F1, and answers what came of it.
+fn built(value: &Value) -> Answer {
     let data = [7u8; 64];
     let mut out = [UNTOUCHED; 80];
     let plan = frame::Plan {
-        choice: choice,
-        kb1: kb1,
-        kb2: 0x8F,
+        choice: value.choice,
+        pair: Pair {
+            kb1: value.kb1,
+            kb2: 0x8F,
+        },
         form: 1,
         target: 0x11,
         source: 0xF1,
     };
-    let m = at_most_64(n);
-    let b = frame::build(plan, &data[..m], &mut out);
+    let m = value.size.min(64);
     Answer {
-        no: b.no,
-        len: b.len,
-        first: out[0],
-        second: out[1],
-        third: out[2],
-        fourth: out[3],
+        built: frame::build(plan, &data[..m], &mut out),
+        first: [out[0], out[1], out[2], out[3]],
     }
 }
 
-// Runs one value and prints its line: 1 where it is right, else 0.
-fn run(rt: &impl Print, choice: u8, kb1: u8, n: usize, want: Answer) -> io::Result<u64>
-    ensures { IfOk result (λ right. right ≤ 1) }
-{
-    let got = built(choice, kb1, n);
-    print!(rt; "{n} bytes under ")?;
-    print_byte(rt, kb1)?;
-    print!(rt; " 8F in form 1 by choice {choice}: ")?;
-    print_answer(rt, got)?;
-    print!(rt; ", should be ")?;
-    print_answer(rt, want)?;
-    if same_answer(got, want) {
-        println!(rt; ": right")?;
-        return Ok(1);
-    }
-    println!(rt; ": WRONG")?;
-    Ok(0)
+// Runs a value and prints its line; whether it is right.
+fn run(rt: &impl Print, value: &Value) -> io::Result<bool> {
+    let Value {
+        choice,
+        kb1,
+        size,
+        want,
+    } = *value;
+    let got = built(value);
+    let right = got == want;
+    let verdict = if right { "right" } else { "WRONG" };
+    println!(rt;
+        "{size} bytes under {kb1:02X} 8F in form 1 by choice {choice}: {got}, should be {want}: {verdict}"
+    )?;
+    Ok(right)
 }
 
-// The answer that is expected: 0, a length and four first bytes.
-fn taken(len: usize, first: u8, second: u8, third: u8, fourth: u8) -> Answer {
-    Answer {
-        no: 0,
-        len: len,
-        first: first,
-        second: second,
-        third: third,
-        fourth: fourth,
-    }
-}
-
-// The refusal that is expected: a number, and a buffer that nothing touched.
-fn refused(no: u8) -> Answer {
-    Answer {
-        no: no,
-        len: 0,
-        first: UNTOUCHED,
-        second: UNTOUCHED,
-        third: UNTOUCHED,
-        fourth: UNTOUCHED,
+// A value that is built: the length and the first four bytes that are expected.
+fn taken(choice: u8, kb1: u8, size: usize, len: usize, first: [u8; 4]) -> Value {
+    let want = Answer {
+        built: Ok(len),
+        first,
+    };
+    Value {
+        choice,
+        kb1,
+        size,
+        want,
     }
 }
 
-// The values of document 01: how many are right, of 3.
-fn run_shortest(rt: &impl Print) -> io::Result<u64> {
-    let a = run(
-        rt,
-        frame::SHORTEST,
-        0xE9,
-        63,
-        taken(67, 0xBF, 0x11, 0xF1, 7),
-    )?;
-    let b = run(rt, frame::SHORTEST, 0xE9, 64, refused(7))?;
-    let c = run(
-        rt,
-        frame::SHORTEST,
-        0xEF,
-        64,
-        taken(69, 0x80, 0x11, 0xF1, 0x40),
-    )?;
-    Ok(a + b + c)
-}
-
-// The values of the other choices: how many are right, of 6.
-fn run_chosen(rt: &impl Print) -> io::Result<u64> {
-    let a = run(
-        rt,
-        frame::IN_FORMAT_BYTE,
-        0xEF,
-        63,
-        taken(67, 0xBF, 0x11, 0xF1, 7),
-    )?;
-    let b = run(rt, frame::IN_FORMAT_BYTE, 0xEF, 64, refused(7))?;
-    let c = run(rt, frame::IN_FORMAT_BYTE, 0xEA, 2, refused(7))?;
-    let d = run(
-        rt,
-        frame::IN_EXTRA_BYTE,
-        0xEF,
-        2,
-        taken(7, 0x80, 0x11, 0xF1, 2),
-    )?;
-    let e = run(rt, frame::IN_EXTRA_BYTE, 0xE9, 2, refused(7))?;
-    let f = run(rt, 3, 0xEF, 2, refused(6))?;
-    Ok(a + b + c + d + e + f)
+// A value that is refused: the refusal that is expected, and a buffer that nothing touched.
+fn refused(choice: u8, kb1: u8, size: usize, why: Refusal) -> Value {
+    let want = Answer {
+        built: Err(why),
+        first: [UNTOUCHED; 4],
+    };
+    Value {
+        choice,
+        kb1,
+        size,
+        want,
+    }
 }
 
 fn main(rt: HostRuntime) -> io::Result<()> {
     println!(rt; "number, length, first four bytes of the buffer")?;
-    let shortest = run_shortest(&rt)?;
-    let chosen = run_chosen(&rt)?;
-    if shortest == 3 {
-        if chosen == 6 {
-            return println!(rt; "all right");
-        }
+    let values = [
+        // The values of document 01.
+        taken(frame::SHORTEST, 0xE9, 63, 67, [0xBF, 0x11, 0xF1, 7]),
+        refused(frame::SHORTEST, 0xE9, 64, Refusal::BadLength),
+        taken(frame::SHORTEST, 0xEF, 64, 69, [0x80, 0x11, 0xF1, 0x40]),
+        // Those of the other choices.
+        taken(frame::IN_FORMAT_BYTE, 0xEF, 63, 67, [0xBF, 0x11, 0xF1, 7]),
+        refused(frame::IN_FORMAT_BYTE, 0xEF, 64, Refusal::BadLength),
+        refused(frame::IN_FORMAT_BYTE, 0xEA, 2, Refusal::BadLength),
+        taken(frame::IN_EXTRA_BYTE, 0xEF, 2, 7, [0x80, 0x11, 0xF1, 2]),
+        refused(frame::IN_EXTRA_BYTE, 0xE9, 2, Refusal::BadLength),
+        refused(3, 0xEF, 2, Refusal::BadForm),
+    ];
+    let mut all = true;
+    for value in values.iter() {
+        all &= run(&rt, value)?;
     }
-    println!(rt; "NOT all right")
+    println!(rt; "{}", if all { "all right" } else { "NOT all right" })
 }

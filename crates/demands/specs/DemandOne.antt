@@ -12,7 +12,7 @@ use Rattle.timing.specs.Coded.{HasCodes}
 use Rattle.frame.specs.Build.{planned, size_of, Builds}
 use Rattle.frame.specs.Read.{not_read, read_of}
 use Rattle.frame.specs.declared.Plan.{Plan}
-use Rattle.frame.specs.declared.Built.{Built}
+use Rattle.frame.specs.Answers.{Built}
 use Rattle.events.specs.declared.Kind.TheVariants.{Byte}
 use Rattle.events.specs.declared.Side.TheVariants.{Tester}
 use Rattle.events.specs.declared.Event.{Event}

@@ -16,7 +16,7 @@ use Rattle.frame.specs.Build.{over, Builds}
 use Rattle.frame.specs.Shortest.{BuildsShortest}
 use Rattle.frame.specs.Read.{read_of}
 use Rattle.frame.specs.declared.Plan.{Plan}
-use Rattle.frame.specs.declared.Built.{Built}
+use Rattle.frame.specs.Answers.{Built}
 use Rattle.frame.specs.Layout.{SumsUp}
 use Rattle.frame.specs.Announced.{IsFrame, plan_of}
 use Rattle.frame.specs.ReadsBack.{ReadsBack, BuiltReadsBack}
@@ -48,7 +48,7 @@ pub record Foundation : Type 0 where
   pub built : (p : Plan) (bytes out : List ℕ) (r : Built) (after : List ℕ) → Builds p bytes out r after → r.no ≡ taken → BuiltReadsBack p bytes out r after
   -- .. and has its length in the place chosen, under the choice 0 in the format byte wherever it may stand there, and otherwise in the extra byte;
   pub placed : (p : Plan) (bytes out : List ℕ) (r : Built) (after : List ℕ) → Builds p bytes out r after → r.no ≡ taken
-      → LengthPlaced p.choice p.kb1 (length bytes) (take r.len after)
+      → LengthPlaced p.choice p.pair.kb1 (length bytes) (take r.len after)
   -- .. and has at most 260 bytes.
   pub small : (p : Plan) (bytes out : List ℕ) (r : Built) (after : List ℕ) → Builds p bytes out r after → r.no ≡ taken → r.len ≤ 260
   -- Under the choice 0 `build` promises what document 01's builder did, which knew no choice.

@@ -32,7 +32,7 @@ abbrev pub BadChoice : ℕ → Type 0
 BadChoice choice = 2 < choice
 
 abbrev pub BadPlan : Plan → Type 0
-BadPlan p = BadChoice p.choice ⊎ BadForm p.kb1 p.form
+BadPlan p = BadChoice p.choice ⊎ BadForm p.pair.kb1 p.form
 
 -- 7: "Length 1 to 63 goes in the format byte if KB1 bit 0 is set; otherwise lengths 1 to 255 take the extra byte if bit 1 is set; all else is 7."
 abbrev pub GoesInFormat : ℕ → ℕ → Type 0
@@ -50,7 +50,7 @@ HasPlace choice kb1 n =
     ⊎ ((choice ≡ 2) × TakesExtra kb1 n)
 
 abbrev pub BadLength : Plan → ℕ → Type 0
-BadLength p n = Not (HasPlace p.choice p.kb1 n)
+BadLength p n = Not (HasPlace p.choice p.pair.kb1 n)
 
 -- 8: "lent buffer shorter than the frame", which n bytes of data make, with their length in the place chosen
 abbrev pub NoRoom : Plan → ℕ → ℕ → Type 0
@@ -58,11 +58,11 @@ NoRoom p n room = room < size_of p n
 
 -- THE NUMBER OF BUILDING from n bytes of data into a buffer of `room` bytes: each exactly when its condition holds and that of no smaller one does.
 pub record BuildNumbered (p : Plan) (n room no : ℕ) : Type 0 where
-  pub five : (no ≡ 5) ↔ BadKeys p.kb1 p.kb2
-  pub six : (no ≡ 6) ↔ (Not (BadKeys p.kb1 p.kb2) × BadPlan p)
-  pub seven : (no ≡ 7) ↔ (Not (BadKeys p.kb1 p.kb2) × Not (BadPlan p) × BadLength p n)
-  pub eight : (no ≡ 8) ↔ (Not (BadKeys p.kb1 p.kb2) × Not (BadPlan p) × Not (BadLength p n) × NoRoom p n room)
-  pub built : (no ≡ 0) ↔ (Not (BadKeys p.kb1 p.kb2) × Not (BadPlan p) × Not (BadLength p n) × Not (NoRoom p n room))
+  pub five : (no ≡ 5) ↔ BadKeys p.pair.kb1 p.pair.kb2
+  pub six : (no ≡ 6) ↔ (Not (BadKeys p.pair.kb1 p.pair.kb2) × BadPlan p)
+  pub seven : (no ≡ 7) ↔ (Not (BadKeys p.pair.kb1 p.pair.kb2) × Not (BadPlan p) × BadLength p n)
+  pub eight : (no ≡ 8) ↔ (Not (BadKeys p.pair.kb1 p.pair.kb2) × Not (BadPlan p) × Not (BadLength p n) × NoRoom p n room)
+  pub built : (no ≡ 0) ↔ (Not (BadKeys p.pair.kb1 p.pair.kb2) × Not (BadPlan p) × Not (BadLength p n) × Not (NoRoom p n room))
   pub no_other : (no ≡ 0) ⊎ ((5 ≤ no) × (no ≤ 8))
 
 -- ---- reading

@@ -1,7 +1,7 @@
 -- The wrong programs that document 01 wants shut out ("What a caller can rely on"), the accident that must not come again, wrong links that a single field
 -- of a demand is there for, and our link with another idle time than document 02 says. That each breaks a demand is proved in proofs/WrongLinks/ShutOut.antt.
 -- Assumes nothing.
-use Rattle.std.specs.Prelude.{ℕ, ◌+◌, ◌-◌, Bool, true, false, not, ◌&&◌, ◌||◌, List, [], ◌∷◌, ◌++◌, eqb, if◌then◌else◌}
+use Rattle.std.specs.Prelude.{ℕ, ◌+◌, ◌-◌, Bool, true, false, not, ◌&&◌, ◌||◌, List, [], ◌∷◌, ◌++◌, eqb, get_or, if◌then◌else◌}
 use Rattle.base.specs.Numbers.{taken, too_many}
 use Rattle.base.specs.Sums.{count_sum}
 use Rattle.base.specs.Reports.{failed_report, outside_report, down_report, not_idle_report, no_reason, stopped, idle_over, restarted}
@@ -11,7 +11,7 @@ use Rattle.events.specs.Events.{is_byte}
 use Rattle.events.specs.declared.Event.{Event}
 use Rattle.phases.specs.Phases.{is_down, is_quiet, is_held, down, off}
 use Rattle.phases.specs.declared.Phase.{Phase}
-use Rattle.reports.specs.Reporting.{no_reports, appended, listed}
+use Rattle.reports.specs.Reporting.{in_places, no_report, no_reports, appended, listed}
 use Rattle.reports.specs.Counting.{zero_counts, counted_event}
 use Rattle.reports.specs.declared.Report.{Report}
 use Rattle.reports.specs.declared.Reports.{Reports}
@@ -97,6 +97,10 @@ inventing = machine_of (λ l c e. record {
   counts = record { heard = 7; framed = 7; damaged = 0; started = 0; outside = 0; frames = 1; damages = 0 };
 })
 
+-- what stands in the first place for a report
+abbrev first_of : Reports → Report
+first_of rs = get_or (in_places rs) 0 no_report
+
 -- THE ACCIDENT: at a timing change, ..
 abbrev retimed : Link → Stepped → Bool
 retimed l s = is_held l.phase.state && is_quiet s.answer.link.phase.state && not (same_windows l.phase.windows s.answer.link.phase.windows)
@@ -109,7 +113,7 @@ behind = machine_of (λ l c e. let s = step_of l c e in if retimed l s then with
 abbrev pub twice : Machine
 twice = machine_of (λ l c e.
     let s = step_of l c e in
-    if retimed l s then with_reports c s (appended s.answer.reports s.answer.reports.a) else s)
+    if retimed l s then with_reports c s (appended s.answer.reports (first_of s.answer.reports)) else s)
 
 -- ---- what a history with the link's own counts does not show
 -- one that a refused event makes fresh again
@@ -278,12 +282,13 @@ strict = idling_else (λ l e rs. is_among not_idle_report rs) (λ l. idle_at_pow
 
 -- .. and one that judges a restart by P3 min: it goes down with reason 4, and then does what a link does that is down with that idle time
 abbrev both : Reports → Reports → Reports
-both first more = if eqb more.n 0 then appended no_reports first.a else appended (appended no_reports first.a) more.a
+both first more =
+    if eqb more.n 0 then appended no_reports (first_of first) else appended (appended no_reports (first_of first)) (first_of more)
 
 abbrev pub hasty : Machine
 hasty = machine_of (λ l c e.
     let s = step_of l c e in
     let a = s.answer in
     let later = (step_of (at_phase l (down l.phase.windows.p3min)) c e).answer in
-    if eqb a.reports.a.number down_report && eqb a.reports.a.reason restarted
+    if eqb (first_of a.reports).number down_report && eqb (first_of a.reports).reason restarted
     then record { answer = record { link = later.link; reports = both a.reports later.reports; no = a.no }; counts = s.counts } else s)

@@ -2,13 +2,15 @@
 #![tactic(auto)]
 
 ghost use Rattle.std.specs.Prelude.{◌≡◌};
-ghost use Rattle.events.specs.Events.{kind_by, side_by, is_other, is_byte, marks, is_tester, is_unit, is_nobody, same_side};
+ghost use Rattle.base.specs.Refusals.{no_of};
+ghost use Rattle.events.specs.Events.{kind_by, side_by, is_byte, marks, is_tester, is_unit, same_side};
 ghost use Rattle.events.specs.Events.{is_unknown, is_too_late, is_out_of_order, refusal};
 
+use base::Refusal;
 use units::Micros;
 
-// What an event is. Other is what is none of the five.
-#[derive(Clone, Copy)]
+// What an event is. Other is what is none of the five: an event that is refused with 1.
+#[derive(Clone, Copy, Debug, PartialEq, Eq)]
 pub enum Kind {
     Address,
     WakeUp,
@@ -18,8 +20,8 @@ pub enum Kind {
     Other,
 }
 
-// Who sent a byte. Nobody is neither.
-#[derive(Clone, Copy)]
+// Who sent a byte. Nobody is neither: such a byte is refused with 1.
+#[derive(Clone, Copy, Debug, PartialEq, Eq)]
 pub enum Side {
     Tester,
     Unit,
@@ -28,7 +30,7 @@ pub enum Side {
 
 // An event. A wake-up falls at its start and rises at its end; a tick and a drop have one time,
 // which stands as both. Only a byte has a side, only a byte and an address have a value.
-#[derive(Clone, Copy)]
+#[derive(Clone, Copy, Debug, PartialEq, Eq)]
 pub struct Event {
     pub start: Micros,
     pub end: Micros,
@@ -38,29 +40,21 @@ pub struct Event {
 }
 
 // The latest time that an event may have.
-const LATEST: u64 = 4_000_000_000_000;
+const LATEST: Micros = Micros(4_000_000_000_000);
 
 // An event's kind by its letter: A, W, B, T or D.
 #[tactic(auto, unfolding(crate::specs::Events::kind_by))]
 pub fn kind_by(letter: u8) -> Kind
     ensures { result ≡ kind_by letter }
 {
-    if letter == 0x41 {
-        return Kind::Address;
+    match letter {
+        b'A' => Kind::Address,
+        b'W' => Kind::WakeUp,
+        b'B' => Kind::Byte,
+        b'T' => Kind::Tick,
+        b'D' => Kind::Drop,
+        _ => Kind::Other,
     }
-    if letter == 0x57 {
-        return Kind::WakeUp;
-    }
-    if letter == 0x42 {
-        return Kind::Byte;
-    }
-    if letter == 0x54 {
-        return Kind::Tick;
-    }
-    if letter == 0x44 {
-        return Kind::Drop;
-    }
-    Kind::Other
 }
 
 // A byte's side by its letter: t or e.
@@ -68,27 +62,10 @@ pub fn kind_by(letter: u8) -> Kind
 pub fn side_by(letter: u8) -> Side
     ensures { result ≡ side_by letter }
 {
-    if letter == 0x74 {
-        return Side::Tester;
-    }
-    if letter == 0x65 {
-        return Side::Unit;
-    }
-    Side::Nobody
-}
-
-// Whether a kind is none of the five.
-#[tactic(auto, unfolding(crate::specs::Events::is_other))]
-fn is_other(kind: Kind) -> bool
-    ensures { result ≡ is_other kind }
-{
-    match kind {
-        Kind::Address => false,
-        Kind::WakeUp => false,
-        Kind::Byte => false,
-        Kind::Tick => false,
-        Kind::Drop => false,
-        Kind::Other => true,
+    match letter {
+        b't' => Side::Tester,
+        b'e' => Side::Unit,
+        _ => Side::Nobody,
     }
 }
 
@@ -97,14 +74,7 @@ fn is_other(kind: Kind) -> bool
 pub fn is_byte(kind: Kind) -> bool
     ensures { result ≡ is_byte kind }
 {
-    match kind {
-        Kind::Address => false,
-        Kind::WakeUp => false,
-        Kind::Byte => true,
-        Kind::Tick => false,
-        Kind::Drop => false,
-        Kind::Other => false,
-    }
+    kind == Kind::Byte
 }
 
 // Whether an event's end becomes the link's mark.
@@ -112,14 +82,7 @@ pub fn is_byte(kind: Kind) -> bool
 pub fn is_marking(kind: Kind) -> bool
     ensures { result ≡ marks kind }
 {
-    match kind {
-        Kind::Address => true,
-        Kind::WakeUp => true,
-        Kind::Byte => true,
-        Kind::Tick => false,
-        Kind::Drop => false,
-        Kind::Other => false,
-    }
+    matches!(kind, Kind::Address | Kind::WakeUp | Kind::Byte)
 }
 
 // Whether a side is the tester's.
@@ -127,11 +90,7 @@ pub fn is_marking(kind: Kind) -> bool
 pub fn is_tester(side: Side) -> bool
     ensures { result ≡ is_tester side }
 {
-    match side {
-        Side::Tester => true,
-        Side::Unit => false,
-        Side::Nobody => false,
-    }
+    side == Side::Tester
 }
 
 // Whether a side is the unit's.
@@ -139,45 +98,23 @@ pub fn is_tester(side: Side) -> bool
 pub fn is_unit(side: Side) -> bool
     ensures { result ≡ is_unit side }
 {
-    match side {
-        Side::Tester => false,
-        Side::Unit => true,
-        Side::Nobody => false,
-    }
-}
-
-// Whether a side is neither.
-#[tactic(auto, unfolding(crate::specs::Events::is_nobody))]
-fn is_nobody(side: Side) -> bool
-    ensures { result ≡ is_nobody side }
-{
-    match side {
-        Side::Tester => false,
-        Side::Unit => false,
-        Side::Nobody => true,
-    }
+    side == Side::Unit
 }
 
 // Whether two sides are the same.
-#[tactic(auto, unfolding(crate::specs::Events::same_side))]
+#[tactic(auto, unfolding(crate::specs::Events::same_side, crate::specs::Events::is_tester, crate::specs::Events::is_unit, crate::specs::Events::is_nobody))]
 pub fn same_side(a: Side, b: Side) -> bool
     ensures { result ≡ same_side a b }
 {
-    match a {
-        Side::Tester => is_tester(b),
-        Side::Unit => is_unit(b),
-        Side::Nobody => is_nobody(b),
-    }
+    a == b
 }
 
 // Whether an event's kind or side is unknown.
-#[tactic(auto, unfolding(crate::specs::Events::is_unknown))]
+#[tactic(auto, unfolding(crate::specs::Events::is_unknown, crate::specs::Events::is_other, crate::specs::Events::is_byte, crate::specs::Events::is_nobody))]
 fn unknown(e: Event) -> bool
     ensures { result ≡ is_unknown e }
 {
-    let kind = e.kind;
-    let side = e.side;
-    is_other(kind) | (is_byte(kind) & is_nobody(side))
+    (e.kind == Kind::Other) | (is_byte(e.kind) & (e.side == Side::Nobody))
 }
 
 // Whether an event has a time that is too late.
@@ -185,7 +122,7 @@ fn unknown(e: Event) -> bool
 fn too_late(e: Event) -> bool
     ensures { result ≡ is_too_late e }
 {
-    units::earlier(Micros(LATEST), e.start) | units::earlier(Micros(LATEST), e.end)
+    (LATEST < e.start) | (LATEST < e.end)
 }
 
 // Whether an event ends before it starts, or starts before the clock.
@@ -193,25 +130,25 @@ fn too_late(e: Event) -> bool
 fn out_of_order(clock: Micros, e: Event) -> bool
     ensures { result ≡ is_out_of_order clock e }
 {
-    units::earlier(e.end, e.start) | units::earlier(e.start, clock)
+    (e.end < e.start) | (e.start < clock)
 }
 
-// The number of an event: its refusal, or 0. `full` is whether no more events are taken.
-#[tactic(auto, unfolding(crate::specs::Events::refusal))]
-pub fn refused(clock: Micros, full: bool, e: Event) -> u8
-    ensures { result ≡ refusal clock full e }
+// Why an event is refused, if it is. `full` is whether no more events are taken.
+#[tactic(auto, unfolding(crate::specs::Events::refusal, base::specs::Refusals::no_of, base::specs::Refusals::number_of))]
+pub fn refused(clock: Micros, full: bool, e: Event) -> Result<(), Refusal>
+    ensures { no_of result ≡ refusal clock full e }
 {
     if unknown(e) {
-        return base::UNKNOWN;
+        return Err(Refusal::Unknown);
     }
     if too_late(e) {
-        return base::TOO_LATE;
+        return Err(Refusal::TooLate);
     }
     if out_of_order(clock, e) {
-        return base::OUT_OF_ORDER;
+        return Err(Refusal::OutOfOrder);
     }
     if full {
-        return base::TOO_MANY;
+        return Err(Refusal::TooMany);
     }
-    base::TAKEN
+    Ok(())
 }

@@ -6,29 +6,30 @@ use Prim.Native.Nat.{ℕ, ◌≤◌}
 use borrow.Author.Tests.{le-ltb}
 use lib.Dec.{ltb}
 use lib.ListN.{length}
+use Rattle.std.specs.Prelude.{Option, Some, None}
 use Rattle.base.specs.Numbers.{taken}
 use Rattle.keys.specs.Keys.{length_in_format, extra_length}
 use Rattle.frame.specs.Layout.{form_numbered, number_of}
 use Rattle.frame.specs.Build.{only_in, place_chosen, place_in, planned, size_of, build_no, built_of, over, buffer_after, Builds}
 use Rattle.frame.specs.Announced.{Placed, IsFrame, choice_of, plan_of}
 use Rattle.frame.specs.declared.Place.{Place}
-use Rattle.frame.specs.declared.Place.TheVariants.{Format, Extra, Nowhere}
+use Rattle.frame.specs.declared.Place.TheVariants.{Format, Extra}
 use Rattle.frame.specs.declared.Plan.{Plan}
 use Rattle.frame.proofs.Sizes.{frame_length}
 use Rattle.frame.proofs.Announced.{somewhere, there_by}
 use Rattle.frame.proofs.WellRead.{form_again}
 
 -- the choice of a place is one of the three, and leads there
-few_choices : (place : Place) → ltb 2 (choice_of place) ≡ false
-few_choices Format = refl
-few_choices Extra = refl
-few_choices Nowhere = refl
+few_choices : (place : Option Place) → ltb 2 (choice_of place) ≡ false
+few_choices (Some Format) = refl
+few_choices (Some Extra) = refl
+few_choices None = refl
 
-choice_place : (kb1 : ℕ) (place : Place) (n : ℕ) → Placed kb1 place n → place_chosen (choice_of place) kb1 n ≡ place
+choice_place : (kb1 : ℕ) (place : Option Place) (n : ℕ) → Placed kb1 place n → place_chosen (choice_of place) kb1 n ≡ place
 unfolding place_chosen only_in
-choice_place kb1 Format n p = there_by (length_in_format kb1) n _ _ _ p.0 p.1 p.2
-choice_place kb1 Extra n p = there_by (extra_length kb1) n _ _ _ p.0 p.1 p.2
-choice_place kb1 Nowhere n p = absurd p
+choice_place kb1 (Some Format) n p = there_by (length_in_format kb1) n _ _ _ p.0 p.1 p.2
+choice_place kb1 (Some Extra) n p = there_by (extra_length kb1) n _ _ _ p.0 p.1 p.2
+choice_place kb1 None n p = absurd p
 
 module _ (kb1 kb2 : ℕ) (s : List ℕ) (f : IsFrame kb1 kb2 s) where
   abbrev plan : Plan

@@ -9,4 +9,5 @@ pub mod Placing
 pub mod Shortest
 pub mod WellRead
 pub mod AllBuilt
+pub mod Answered
 pub mod One

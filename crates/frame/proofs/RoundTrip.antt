@@ -9,7 +9,7 @@ use borrow.Author.Tests.{eq-eqb, eqb-true}
 use lib.Dec.{eqb}
 use lib.ListN.{length, get_or, take, length-append}
 use lib.Seq.{take_at, get_or_at}
-use Rattle.std.specs.Prelude.{if◌then◌else◌}
+use Rattle.std.specs.Prelude.{Option, if◌then◌else◌}
 use Rattle.base.specs.Numbers.{taken}
 use Rattle.base.proofs.Tests.{by_test}
 use Rattle.keys.specs.Keys.{takes_form}
@@ -22,12 +22,12 @@ use Rattle.frame.specs.Announced.{Announced}
 use Rattle.frame.specs.ReadsBack.{ReadsBack, BuiltReadsBack}
 use Rattle.frame.specs.declared.Place.{Place}
 use Rattle.frame.specs.declared.Plan.{Plan}
-use Rattle.frame.specs.declared.Built.{Built}
+use Rattle.frame.specs.Answers.{Built}
 use Rattle.frame.proofs.Sizes.{head_le, body_length, frame_length}
 use Rattle.frame.proofs.Announced.{length_byte, none_refuses}
 use Rattle.frame.proofs.Starts.{Starts, frame_starts, starts_laid}
 
-module _ (kb1 kb2 : ℕ) (form : Form) (place : Place) (t s : ℕ) (d : List ℕ) (r : Announced kb1 kb2 form place (length d)) where
+module _ (kb1 kb2 : ℕ) (form : Form) (place : Option Place) (t s : ℕ) (d : List ℕ) (r : Announced kb1 kb2 form place (length d)) where
   frame_laid : (rest : List ℕ) → laid_of kb1 (frame_of form place t s d ++ rest) ≡ record { no = taken; form = form; start = head_size form place; len = length d }
   frame_laid rest =
       starts_laid kb1 (frame_of form place t s d ++ rest) form place t s d r.takes r.placed (frame_starts kb1 form place t s d r.placed rest)
@@ -80,7 +80,7 @@ module _ (kb1 kb2 : ℕ) (form : Form) (place : Place) (t s : ℕ) (d : List ℕ
   frame_small = omega (arith, frame_length form place t s d, head_le form place, length_byte kb1 place (length d) r.placed)
 
 -- THE CHECKSUM IS THE SUM OF ALL BYTES BEFORE IT, MODULO 256
-pub frame_sums_up : (form : Form) (place : Place) (t s : ℕ) (d : List ℕ) → SumsUp (frame_of form place t s d)
+pub frame_sums_up : (form : Form) (place : Option Place) (t s : ℕ) (d : List ℕ) → SumsUp (frame_of form place t s d)
 unfolding frame_of checksum_of
 frame_sums_up form place t s d =
     let body = body_of form place t s d in
@@ -117,10 +117,10 @@ built_taken p bytes out r after b e = sym (built_no p (length bytes) (length out
 
 -- WHAT IS PLANNED READS BACK, where key bytes announce it
 pub planned_reads_back : (p : Plan) (bytes : List ℕ)
-    → Announced p.kb1 p.kb2 (form_numbered p.form) (place_in p (length bytes)) (length bytes)
-    → ReadsBack p.kb1 p.kb2 (form_numbered p.form) p.target p.source bytes (planned p bytes)
+    → Announced p.pair.kb1 p.pair.kb2 (form_numbered p.form) (place_in p (length bytes)) (length bytes)
+    → ReadsBack p.pair.kb1 p.pair.kb2 (form_numbered p.form) p.target p.source bytes (planned p bytes)
 unfolding planned
-planned_reads_back p bytes a = frame_reads_back p.kb1 p.kb2 (form_numbered p.form) (place_in p (length bytes)) p.target p.source bytes a
+planned_reads_back p bytes a = frame_reads_back p.pair.kb1 p.pair.kb2 (form_numbered p.form) (place_in p (length bytes)) p.target p.source bytes a
 
 -- and so does WHAT `build` BUILDS
 pub built_reads_back : (p : Plan) (bytes out : List ℕ) (r : Built) (after : List ℕ) → Builds p bytes out r after → r.no ≡ taken → BuiltReadsBack p bytes out r after
@@ -135,7 +135,7 @@ built_reads_back p bytes out r after b e =
           ap (λ (k : Built). k.len) b.answer ∙ rw (eq-eqb (build_no p n (length out)) taken no)
           (sym (frame_length (form_numbered p.form) (place_in p n) p.target p.source bytes));
       memory = b.memory ∙ rw (eq-eqb (build_no p n (length out)) taken no);
-      form_number = number_back p.kb1 p.form x.announced.takes;
+      form_number = number_back p.pair.kb1 p.form x.announced.takes;
       reads_back = planned_reads_back p bytes x.announced;
     }
 
@@ -147,7 +147,7 @@ built_small p bytes out r after b e =
     omega (
       arith,
       (built_reads_back p bytes out r after b e).size,
-      frame_small p.kb1 p.kb2 (form_numbered p.form) (place_in p (length bytes)) p.target p.source bytes x.announced,
+      frame_small p.pair.kb1 p.pair.kb2 (form_numbered p.form) (place_in p (length bytes)) p.target p.source bytes x.announced,
     )
 
 -- .. and, taken or refused, no more than the buffer

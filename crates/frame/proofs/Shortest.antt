@@ -8,21 +8,21 @@ use lib.ListN.{length}
 use Rattle.frame.specs.Build.{planned, size_of, build_no, built_of, buffer_after, Builds}
 use Rattle.frame.specs.Shortest.{shortest_frame, shortest_size, shortest_no, shortest_built, shortest_after, BuildsShortest}
 use Rattle.frame.specs.declared.Plan.{Plan}
-use Rattle.frame.specs.declared.Built.{Built}
+use Rattle.frame.specs.Answers.{Built}
 use Rattle.frame.proofs.Placing.{shortest_place}
 
 module _ (p : Plan) (e : p.choice ≡ 0) where
   same_frame : (bytes : List ℕ) → planned p bytes ≡ shortest_frame p bytes
   unfolding planned shortest_frame
-  same_frame bytes = rw (shortest_place p.choice p.kb1 (length bytes) e)
+  same_frame bytes = rw (shortest_place p.choice p.pair.kb1 (length bytes) e)
 
   same_size : (n : ℕ) → size_of p n ≡ shortest_size p n
   unfolding size_of shortest_size
-  same_size n = rw (shortest_place p.choice p.kb1 n e)
+  same_size n = rw (shortest_place p.choice p.pair.kb1 n e)
 
   same_no : (n room : ℕ) → build_no p n room ≡ shortest_no p n room
   unfolding build_no shortest_no
-  same_no n room = rw (same_size n, shortest_place p.choice p.kb1 n e, e)
+  same_no n room = rw (same_size n, shortest_place p.choice p.pair.kb1 n e, e)
 
   -- THE SAME ANSWER, AND THE SAME BYTES IN ALL OF THE BUFFER
   pub same_answer : (n room : ℕ) → built_of p n room ≡ shortest_built p n room

@@ -8,6 +8,7 @@ use native.Mathlib.Omega.{arith}
 use borrow.Author.Tests.{eq-eqb, ne_eqb}
 use lib.ListN.{length, get_or, take, drop}
 use lib.Seq.{take-append_seam, drop_at}
+use Rattle.std.specs.Prelude.{Option, Some, None}
 use Rattle.base.specs.Numbers.{taken}
 use Rattle.keys.specs.Keys.{takes_form}
 use Rattle.keys.specs.declared.Form.{Form}
@@ -16,12 +17,12 @@ use Rattle.frame.specs.Layout.{top_bits, format_form, low_bits, addresses_of, ex
 use Rattle.frame.specs.Read.{place_read, length_read, laid_of}
 use Rattle.frame.specs.Announced.{Placed}
 use Rattle.frame.specs.declared.Place.{Place}
-use Rattle.frame.specs.declared.Place.TheVariants.{Format, Extra, Nowhere}
+use Rattle.frame.specs.declared.Place.TheVariants.{Format, Extra}
 use Rattle.frame.proofs.Sizes.{head_length}
 use Rattle.frame.proofs.Announced.{length_some, somewhere}
 
 -- S starts with a frame of this form, place, addresses and data, as reading sees it
-pub record Starts (kb1 : ℕ) (S : List ℕ) (form : Form) (place : Place) (t s : ℕ) (d : List ℕ) : Type 0 where
+pub record Starts (kb1 : ℕ) (S : List ℕ) (form : Form) (place : Option Place) (t s : ℕ) (d : List ℕ) : Type 0 where
   pub some : length S ≡ 0 → ⊥
   pub form_is : format_form (get_or S 0 0) ≡ form
   pub place_is : place_read kb1 (get_or S 0 0) ≡ place
@@ -54,17 +55,17 @@ low_back Foreign low h = omega arith
 low_back Physical low h = omega arith
 low_back Functional low h = omega arith
 
-low_small : (kb1 : ℕ) (place : Place) (n : ℕ) → Placed kb1 place n → low_bits place n ≤ 63
+low_small : (kb1 : ℕ) (place : Option Place) (n : ℕ) → Placed kb1 place n → low_bits place n ≤ 63
 unfolding low_bits
-low_small kb1 Format n p = p.2
-low_small kb1 Extra n p = omega arith
-low_small kb1 Nowhere n p = absurd p
+low_small kb1 (Some Format) n p = p.2
+low_small kb1 (Some Extra) n p = omega arith
+low_small kb1 None n p = absurd p
 
-place_back : (kb1 : ℕ) (form : Form) (place : Place) (n : ℕ) → Placed kb1 place n → place_read kb1 (top_bits form + low_bits place n) ≡ place
+place_back : (kb1 : ℕ) (form : Form) (place : Option Place) (n : ℕ) → Placed kb1 place n → place_read kb1 (top_bits form + low_bits place n) ≡ place
 unfolding place_read low_bits
-place_back kb1 form Format n p = rw (low_back form n p.2, ne_eqb n 0 (λ e. omega arith), p.0)
-place_back kb1 form Extra n p = rw (low_back form 0 (omega arith), p.0)
-place_back kb1 form Nowhere n p = absurd p
+place_back kb1 form (Some Format) n p = rw (low_back form n p.2, ne_eqb n 0 (λ e. omega arith), p.0)
+place_back kb1 form (Some Extra) n p = rw (low_back form 0 (omega arith), p.0)
+place_back kb1 form None n p = absurd p
 
 -- the extra byte stands after the addresses
 pub extra_at : (form : Form) (t s n f : ℕ) (rest : List ℕ) → get_or (f ∷ ((addresses_of form t s ++ (n ∷ [])) ++ rest)) (1 + address_count form) 0 ≡ n
@@ -74,12 +75,12 @@ extra_at Physical t s n f rest = refl
 extra_at Functional t s n f rest = refl
 extra_at Foreign t s n f rest = refl
 
-length_back : (kb1 : ℕ) (form : Form) (place : Place) (t s n : ℕ) (rest : List ℕ) → Placed kb1 place n
+length_back : (kb1 : ℕ) (form : Form) (place : Option Place) (t s n : ℕ) (rest : List ℕ) → Placed kb1 place n
     → length_read (head_of form place t s n ++ rest) (top_bits form + low_bits place n) (1 + address_count form) ≡ n
 unfolding length_read low_bits head_of extra_of
-length_back kb1 form Format t s n rest p = rw (low_back form n p.2, ne_eqb n 0 (λ e. omega arith))
-length_back kb1 form Extra t s n rest p = rw (low_back form 0 (omega arith)) (extra_at form t s n (top_bits form + 0) rest)
-length_back kb1 form Nowhere t s n rest p = absurd p
+length_back kb1 form (Some Format) t s n rest p = rw (low_back form n p.2, ne_eqb n 0 (λ e. omega arith))
+length_back kb1 form (Some Extra) t s n rest p = rw (low_back form 0 (omega arith)) (extra_at form t s n (top_bits form + 0) rest)
+length_back kb1 form None t s n rest p = absurd p
 
 -- target and source stand after the format byte, where the form has them
 target_at : (form : Form) (t s f : ℕ) (more : List ℕ) → carried form (get_or (f ∷ (addresses_of form t s ++ more)) 1 0) ≡ carried form t
@@ -97,7 +98,7 @@ source_at Functional t s f more = refl
 source_at Foreign t s f more = refl
 
 -- a head, its data, and anything after
-pub head_starts : (kb1 : ℕ) (form : Form) (place : Place) (t s : ℕ) (d rest : List ℕ) → Placed kb1 place (length d)
+pub head_starts : (kb1 : ℕ) (form : Form) (place : Option Place) (t s : ℕ) (d rest : List ℕ) → Placed kb1 place (length d)
     → Starts kb1 (head_of form place t s (length d) ++ (d ++ rest)) form place t s d
 unfolding head_of
 head_starts kb1 form place t s d rest p =
@@ -115,20 +116,20 @@ head_starts kb1 form place t s d rest p =
     }
 
 -- a frame, and anything after
-pub frame_apart : (form : Form) (place : Place) (t s : ℕ) (d rest : List ℕ)
+pub frame_apart : (form : Form) (place : Option Place) (t s : ℕ) (d rest : List ℕ)
     → frame_of form place t s d ++ rest ≡ head_of form place t s (length d) ++ (d ++ (checksum_of (body_of form place t s d) ∷ rest))
 unfolding frame_of body_of
 frame_apart form place t s d rest =
     append_assoc (head_of form place t s (length d) ++ d) (checksum_of (head_of form place t s (length d) ++ d) ∷ []) rest
     ∙ append_assoc (head_of form place t s (length d)) d (checksum_of (head_of form place t s (length d) ++ d) ∷ rest)
 
-pub frame_starts : (kb1 : ℕ) (form : Form) (place : Place) (t s : ℕ) (d : List ℕ) → Placed kb1 place (length d) → (rest : List ℕ)
+pub frame_starts : (kb1 : ℕ) (form : Form) (place : Option Place) (t s : ℕ) (d : List ℕ) → Placed kb1 place (length d) → (rest : List ℕ)
     → Starts kb1 (frame_of form place t s d ++ rest) form place t s d
 frame_starts kb1 form place t s d p rest =
     rw (frame_apart form place t s d rest) (head_starts kb1 form place t s d (checksum_of (body_of form place t s d) ∷ rest) p)
 
 -- the layout of what starts so
-pub starts_laid : (kb1 : ℕ) (S : List ℕ) (form : Form) (place : Place) (t s : ℕ) (d : List ℕ) → takes_form kb1 form ≡ true → Placed kb1 place (length d)
+pub starts_laid : (kb1 : ℕ) (S : List ℕ) (form : Form) (place : Option Place) (t s : ℕ) (d : List ℕ) → takes_form kb1 form ≡ true → Placed kb1 place (length d)
     → Starts kb1 S form place t s d → laid_of kb1 S ≡ record { no = taken; form = form; start = head_size form place; len = length d }
 unfolding laid_of
 starts_laid kb1 S form place t s d a p b =

@@ -12,7 +12,7 @@ use borrow.Author.Tests.{eqb-true, eqb-false, eq-eqb}
 use lib.Dec.{eqb}
 use lib.ListN.{length, get_or, take, drop, length-drop}
 use lib.Seq.{take-suc, take-add, take_all, length-take-le}
-use Rattle.std.specs.Prelude.{if◌then◌else◌}
+use Rattle.std.specs.Prelude.{Option, Some, None, if◌then◌else◌}
 use Rattle.base.specs.Numbers.{taken, bad_form, bad_length, bad_checksum, bad_keys}
 use Rattle.base.proofs.Tests.{by_test}
 use Rattle.keys.specs.Keys.{good_pair, takes_form, length_in_format, extra_length}
@@ -23,9 +23,8 @@ use Rattle.frame.specs.Read.{format_byte, place_read, length_read, length_of, no
 use Rattle.frame.specs.Announced.{Placed, Announced, IsFrame}
 use Rattle.frame.specs.ReadsBack.{ReadsBack}
 use Rattle.frame.specs.declared.Place.{Place}
-use Rattle.frame.specs.declared.Place.TheVariants.{Format, Extra, Nowhere}
-use Rattle.frame.specs.declared.Laid.{Laid}
-use Rattle.frame.specs.declared.Reading.{Reading}
+use Rattle.frame.specs.declared.Place.TheVariants.{Format, Extra}
+use Rattle.frame.specs.Answers.{Laid, Reading}
 use Rattle.frame.proofs.Announced.{length_byte}
 use Rattle.frame.proofs.Sizes.{head_le, frame_length}
 use Rattle.frame.proofs.RoundTrip.{frame_reads_back, frame_sums_up}
@@ -100,22 +99,22 @@ take_4 : (s : List ℕ) → 4 ≤ length s → take 4 s ≡ get_or s 0 0 ∷ get
 take_4 s h = take-suc s 3 0 h ∙ ap (λ (l : List ℕ). l ++ (get_or s 3 0 ∷ [])) (take_3 s (omega arith))
 
 -- a head of this form and place is what those first bytes are
-head_read : (form : Form) (place : Place) (s : List ℕ) (n : ℕ) → get_or s 0 0 ≡ top_bits form + low_bits place n
+head_read : (form : Form) (place : Option Place) (s : List ℕ) (n : ℕ) → get_or s 0 0 ≡ top_bits form + low_bits place n
     → extra_of place (get_or s (1 + address_count form) 0) ≡ extra_of place n → head_size form place ≤ length s
     → take (head_size form place) s ≡ head_of form place (carried form (get_or s 1 0)) (carried form (get_or s 2 0)) n
 unfolding head_size head_of addresses_of extra_of address_count extra_count carried
-head_read Plain Format s n ef ex h = take_1 s h ∙ ap (λ (k : ℕ). k ∷ []) ef
-head_read Plain Extra s n ef ex h = take_2 s h ∙ (λ i. ef i ∷ ex i)
-head_read Plain Nowhere s n ef ex h = take_1 s h ∙ ap (λ (k : ℕ). k ∷ []) ef
-head_read Physical Format s n ef ex h = take_3 s h ∙ ap (λ (k : ℕ). k ∷ get_or s 1 0 ∷ get_or s 2 0 ∷ []) ef
-head_read Physical Extra s n ef ex h = take_4 s h ∙ (λ i. ef i ∷ get_or s 1 0 ∷ get_or s 2 0 ∷ ex i)
-head_read Physical Nowhere s n ef ex h = take_3 s h ∙ ap (λ (k : ℕ). k ∷ get_or s 1 0 ∷ get_or s 2 0 ∷ []) ef
-head_read Functional Format s n ef ex h = take_3 s h ∙ ap (λ (k : ℕ). k ∷ get_or s 1 0 ∷ get_or s 2 0 ∷ []) ef
-head_read Functional Extra s n ef ex h = take_4 s h ∙ (λ i. ef i ∷ get_or s 1 0 ∷ get_or s 2 0 ∷ ex i)
-head_read Functional Nowhere s n ef ex h = take_3 s h ∙ ap (λ (k : ℕ). k ∷ get_or s 1 0 ∷ get_or s 2 0 ∷ []) ef
-head_read Foreign Format s n ef ex h = take_1 s h ∙ ap (λ (k : ℕ). k ∷ []) ef
-head_read Foreign Extra s n ef ex h = take_2 s h ∙ (λ i. ef i ∷ ex i)
-head_read Foreign Nowhere s n ef ex h = take_1 s h ∙ ap (λ (k : ℕ). k ∷ []) ef
+head_read Plain (Some Format) s n ef ex h = take_1 s h ∙ ap (λ (k : ℕ). k ∷ []) ef
+head_read Plain (Some Extra) s n ef ex h = take_2 s h ∙ (λ i. ef i ∷ ex i)
+head_read Plain None s n ef ex h = take_1 s h ∙ ap (λ (k : ℕ). k ∷ []) ef
+head_read Physical (Some Format) s n ef ex h = take_3 s h ∙ ap (λ (k : ℕ). k ∷ get_or s 1 0 ∷ get_or s 2 0 ∷ []) ef
+head_read Physical (Some Extra) s n ef ex h = take_4 s h ∙ (λ i. ef i ∷ get_or s 1 0 ∷ get_or s 2 0 ∷ ex i)
+head_read Physical None s n ef ex h = take_3 s h ∙ ap (λ (k : ℕ). k ∷ get_or s 1 0 ∷ get_or s 2 0 ∷ []) ef
+head_read Functional (Some Format) s n ef ex h = take_3 s h ∙ ap (λ (k : ℕ). k ∷ get_or s 1 0 ∷ get_or s 2 0 ∷ []) ef
+head_read Functional (Some Extra) s n ef ex h = take_4 s h ∙ (λ i. ef i ∷ get_or s 1 0 ∷ get_or s 2 0 ∷ ex i)
+head_read Functional None s n ef ex h = take_3 s h ∙ ap (λ (k : ℕ). k ∷ get_or s 1 0 ∷ get_or s 2 0 ∷ []) ef
+head_read Foreign (Some Format) s n ef ex h = take_1 s h ∙ ap (λ (k : ℕ). k ∷ []) ef
+head_read Foreign (Some Extra) s n ef ex h = take_2 s h ∙ (λ i. ef i ∷ ex i)
+head_read Foreign None s n ef ex h = take_1 s h ∙ ap (λ (k : ℕ). k ∷ []) ef
 
 top_three : (f : ℕ) → f < 256 → (f / 64 ≡ 0 → ⊥) → (f / 64 ≡ 1 → ⊥) → (f / 64 ≡ 2 → ⊥) → f ≡ 0xC0 + f % 64
 top_three f h n0 n1 n2 = omega arith
@@ -130,14 +129,14 @@ format_made f h =
     (λ n2. top_three f h (eqb-false (f / 64) 0 n0) (eqb-false (f / 64) 1 n1) (eqb-false (f / 64) 2 n2))))
 
 -- the place that is read, with the length n and the byte b after the addresses
-record PlacedWell (kb1 f b n : ℕ) (place : Place) : Type 0 where
+record PlacedWell (kb1 f b n : ℕ) (place : Option Place) : Type 0 where
   low : low_bits place n ≡ f % 64
   placed : Placed kb1 place n
   extra : extra_of place b ≡ extra_of place n
 
 placed_by : (kb1 f b : ℕ) (z x g : Bool) → eqb (f % 64) 0 ≡ z → extra_length kb1 ≡ x → length_in_format kb1 ≡ g → b < 256
-    → is_nowhere (if z then (if x then Extra else Nowhere) else (if g then Format else Nowhere)) ≡ false → ((if z then b else f % 64) ≡ 0 → ⊥)
-    → PlacedWell kb1 f b (if z then b else f % 64) (if z then (if x then Extra else Nowhere) else (if g then Format else Nowhere))
+    → is_nowhere (if z then (if x then Some Extra else None) else (if g then Some Format else None)) ≡ false → ((if z then b else f % 64) ≡ 0 → ⊥)
+    → PlacedWell kb1 f b (if z then b else f % 64) (if z then (if x then Some Extra else None) else (if g then Some Format else None))
 unfolding is_nowhere low_bits extra_of
 placed_by kb1 f b true true g ez ex eg hb a h = record { low = sym (eqb-true (f % 64) 0 ez); placed = (ex, omega arith, omega arith); extra = refl }
 placed_by kb1 f b true false g ez ex eg hb a h = absurd (true≢false a)
@@ -150,7 +149,7 @@ unfolding place_read length_read
 placed_well kb1 s f at hb a h = placed_by kb1 f (get_or s at 0) (eqb (f % 64) 0) (extra_length kb1) (length_in_format kb1) refl refl refl hb a h
 
 -- a list that is as long as the layout says and has the right checksum is head, data and checksum
-frame_made : (form : Form) (place : Place) (s : List ℕ) (n : ℕ) → length s ≡ head_size form place + n + 1
+frame_made : (form : Form) (place : Option Place) (s : List ℕ) (n : ℕ) → length s ≡ head_size form place + n + 1
     → checksum_of (take (head_size form place + n) s) ≡ get_or s (head_size form place + n) 0
     → take (head_size form place) s ≡ head_of form place (carried form (get_or s 1 0)) (carried form (get_or s 2 0)) n
     → s ≡ frame_of form place (carried form (get_or s 1 0)) (carried form (get_or s 2 0)) (take n (drop (head_size form place) s))
@@ -174,7 +173,7 @@ form_again Foreign = refl
 
 pub record WellRead (kb1 kb2 : ℕ) (s : List ℕ) : Type 0 where
   -- where its length stands
-  pub place : Place
+  pub place : Option Place
   -- it is a frame that these key bytes announce ..
   pub announced : Announced kb1 kb2 (form_numbered (read_of kb1 kb2 s).form) place (length (data_of kb1 kb2 s))
   -- .. and these are its bytes, all of them
@@ -200,7 +199,7 @@ read_is kb1 kb2 s g l size sum =
     rw (g, l, eq-eqb (length s) (start_of kb1 s + length_of s + 1) size, eq-eqb (checksum_of (take (start_of kb1 s + length_of s) s)) (get_or s (start_of kb1 s + length_of s) 0) sum)
 
 -- what was read, put together
-together : (kb1 kb2 : ℕ) (s : List ℕ) (form : Form) (place : Place) (t src start n : ℕ)
+together : (kb1 kb2 : ℕ) (s : List ℕ) (form : Form) (place : Option Place) (t src start n : ℕ)
     → read_of kb1 kb2 s ≡ record { no = taken; form = number_of form; target = t; source = src; start = start; len = n }
     → Announced kb1 kb2 form place (length (take n (drop start s))) → s ≡ frame_of form place t src (take n (drop start s)) → WellRead kb1 kb2 s
 unfolding data_of

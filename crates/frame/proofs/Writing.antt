@@ -4,6 +4,7 @@ use mathlib.Core.List.{List, [], ◌∷◌, ◌++◌}
 use Prim.Native.Nat.{ℕ, ◌+◌, ◌<◌}
 use native.Mathlib.Omega.{arith}
 use lib.ListN.{length, take, set}
+use Rattle.std.specs.Prelude.{Option}
 use Rattle.keys.specs.declared.Form.{Form}
 use Rattle.frame.specs.Layout.{addresses_of, extra_of, address_count, head_size, head_of, top_bits, low_bits, checksum_of, body_of, frame_of}
 use Rattle.frame.specs.Build.{put, over}
@@ -16,7 +17,7 @@ pub stored_one : (at x : ℕ) (out : List ℕ) → at < length out → set out a
 stored_one at x out h = stored at (x ∷ []) out (omega arith)
 
 -- the head: format byte, addresses, extra length byte
-pub head_written : (form : Form) (place : Place) (t s n : ℕ) (out o1 o2 : List ℕ) (f a : ℕ) → 0 < length out → f ≡ top_bits form + low_bits place n
+pub head_written : (form : Form) (place : Option Place) (t s n : ℕ) (out o1 o2 : List ℕ) (f a : ℕ) → 0 < length out → f ≡ top_bits form + low_bits place n
     → o1 ≡ put 1 (addresses_of form t s) (set out 0 f) → a ≡ 1 + address_count form → o2 ≡ put a (extra_of place n) o1
     → o2 ≡ over (head_of form place t s n) out
 unfolding head_of over
@@ -26,7 +27,7 @@ head_written form place t s n out o1 o2 f a some ef e1 ea e2 =
     ∙ ap (λ (k : ℕ). over (k ∷ (addresses_of form t s ++ extra_of place n)) out) ef
 
 -- the frame: head, data, and the checksum of both
-pub frame_written : (form : Form) (place : Place) (t s : ℕ) (bytes out o1 o2 : List ℕ) (h e x : ℕ) → h ≡ head_size form place
+pub frame_written : (form : Form) (place : Option Place) (t s : ℕ) (bytes out o1 o2 : List ℕ) (h e x : ℕ) → h ≡ head_size form place
     → o1 ≡ over (head_of form place t s (length bytes)) out → o2 ≡ put h bytes o1 → e ≡ h + length bytes → x ≡ checksum_of (take e o2) → e < length o2
     → set o2 e x ≡ over (frame_of form place t s bytes) out
 unfolding frame_of body_of

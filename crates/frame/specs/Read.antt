@@ -1,14 +1,17 @@
 -- Reading a slice that must be exactly one frame (document 01, "Frames"). Assumes nothing.
-use Rattle.std.specs.Prelude.{◌≡◌, ℕ, ◌+◌, ◌%◌, not, List, length, get_or, take, drop, eqb, if◌then◌else◌}
+use Rattle.std.specs.Prelude.{◌≡◌, ℕ, ◌+◌, ◌%◌, not, Option, Some, None, Result, Ok, Err, List, length, get_or, take, drop, eqb, if◌then◌else◌}
 use Rattle.std.specs.Borrow.{Bor}
 use Rattle.base.specs.Numbers.{taken, bad_keys, bad_form, bad_length, bad_checksum}
+use Rattle.base.specs.Refusals.{number_of as refusal_number}
+use Rattle.base.specs.declared.Refusal.{Refusal}
 use Rattle.keys.specs.Keys.{good_pair, takes_form, length_in_format, extra_length}
 use Rattle.keys.specs.declared.Form.TheVariants.{Plain}
+use Rattle.frame.specs.Answers.{Laid, Reading}
 use Rattle.frame.specs.Layout.{format_form, number_of, address_count, head_size, checksum_of, carried, is_nowhere}
 use Rattle.frame.specs.declared.Place.{Place}
-use Rattle.frame.specs.declared.Place.TheVariants.{Format, Extra, Nowhere}
-use Rattle.frame.specs.declared.Laid.{Laid}
-use Rattle.frame.specs.declared.Reading.{Reading}
+use Rattle.frame.specs.declared.Place.TheVariants.{Format, Extra}
+use Rattle.frame.specs.declared.Front.{Front}
+use Rattle.frame.specs.declared.Frame.{Frame}
 
 -- the format byte of a slice that has one
 abbrev pub format_byte : List ℕ → ℕ
@@ -16,10 +19,10 @@ format_byte s = get_or s 0 0
 
 -- where the length of a frame with this format byte stands: "a length in the format byte without KB1 bit 0, or an extra length byte without bit 1"
 -- has no place. "An extra length byte below 64 is allowed if bit 1 is set."
-unfoldable pub place_read : ℕ → ℕ → Place
+unfoldable pub place_read : ℕ → ℕ → Option Place
 place_read kb1 f =
-    if eqb (f % 64) 0 then (if extra_length kb1 then Extra else Nowhere) else
-    (if length_in_format kb1 then Format else Nowhere)
+    if eqb (f % 64) 0 then (if extra_length kb1 then Some Extra else None) else
+    (if length_in_format kb1 then Some Format else None)
 
 -- the length: the low six bits, or where these are 0 the byte at an index, 0 where the slice has none; that index is after the addresses
 unfoldable pub length_read : List ℕ → ℕ → ℕ → ℕ
@@ -30,6 +33,11 @@ length_of s = length_read s (format_byte s) (1 + address_count (format_form (for
 
 abbrev pub not_laid : ℕ → Laid
 not_laid k = record { no = k; form = Plain; start = 0; len = 0 }
+
+-- a front, or its refusal, in the paper's numbers
+abbrev pub laid_as : Result Front Refusal → Laid
+laid_as (Ok f) = record { no = taken; form = f.form; start = f.start; len = f.len }
+laid_as (Err why) = not_laid (refusal_number why)
 
 -- What the front of s says of a frame that starts there: its form, where its data starts and how many bytes these are. "An empty frame to be
 -- read is 7 if the key bytes are good; a format byte is judged for form even if the rest is missing."
@@ -48,6 +56,11 @@ laid_of kb1 s =
 
 abbrev pub not_read : ℕ → Reading
 not_read k = record { no = k; form = 0; target = 0; source = 0; start = 0; len = 0 }
+
+-- the answer of `read` in the paper's numbers
+abbrev pub read_as : Result Frame Refusal → Reading
+read_as (Ok f) = record { no = taken; form = number_of f.form; target = f.target; source = f.source; start = f.start; len = f.len }
+read_as (Err why) = not_read (refusal_number why)
 
 -- "a length byte of 0, or a slice longer or shorter than the header says, is 7"; then the checksum is 9
 unfoldable pub judged : List ℕ → Laid → Reading

@@ -5,7 +5,7 @@ use Rattle.keys.specs.declared.Form.{Form}
 use Rattle.frame.specs.Layout.{form_numbered, number_of, carried}
 use Rattle.frame.specs.Read.{laid_of, read_of, data_of}
 use Rattle.frame.specs.declared.Plan.{Plan}
-use Rattle.frame.specs.declared.Built.{Built}
+use Rattle.frame.specs.Answers.{Built}
 
 -- `frame` reads back as this form, these addresses and this data
 pub record ReadsBack (kb1 kb2 : ℕ) (form : Form) (t s : ℕ) (d frame : List ℕ) : Type 0 where
@@ -30,4 +30,4 @@ pub record BuiltReadsBack (p : Plan) (bytes out : List ℕ) (r : Built) (after :
   pub memory : after ≡ frame ++ drop (length frame) out
   -- and it reads back with its form, the addresses it carries, and its data
   pub form_number : number_of (form_numbered p.form) ≡ p.form
-  pub reads_back : ReadsBack p.kb1 p.kb2 (form_numbered p.form) p.target p.source bytes frame
+  pub reads_back : ReadsBack p.pair.kb1 p.pair.kb2 (form_numbered p.form) p.target p.source bytes frame

@@ -7,21 +7,21 @@ use Rattle.keys.specs.Keys.{good_pair, takes_form}
 use Rattle.frame.specs.Layout.{form_numbered, head_size, frame_of, is_nowhere}
 use Rattle.frame.specs.Build.{place_for, not_built, over}
 use Rattle.frame.specs.declared.Plan.{Plan}
-use Rattle.frame.specs.declared.Built.{Built}
+use Rattle.frame.specs.Answers.{Built}
 
 -- "Building takes key bytes, form (0 none, 1 physical, 2 functional), addresses, data": the frame that a plan makes of n bytes, and its size
 unfoldable pub shortest_frame : Plan → List ℕ → List ℕ
-shortest_frame p bytes = frame_of (form_numbered p.form) (place_for p.kb1 (length bytes)) p.target p.source bytes
+shortest_frame p bytes = frame_of (form_numbered p.form) (place_for p.pair.kb1 (length bytes)) p.target p.source bytes
 
 unfoldable pub shortest_size : Plan → ℕ → ℕ
-shortest_size p n = head_size (form_numbered p.form) (place_for p.kb1 n) + n + 1
+shortest_size p n = head_size (form_numbered p.form) (place_for p.pair.kb1 n) + n + 1
 
 -- the answer's number for n bytes and a buffer of so many
 unfoldable pub shortest_no : Plan → ℕ → ℕ → ℕ
 shortest_no p n room =
-    if not (good_pair p.kb1 p.kb2) then bad_keys else
-    if not (takes_form p.kb1 (form_numbered p.form)) then bad_form else
-    if is_nowhere (place_for p.kb1 n) then bad_length else
+    if not (good_pair p.pair.kb1 p.pair.kb2) then bad_keys else
+    if not (takes_form p.pair.kb1 (form_numbered p.form)) then bad_form else
+    if is_nowhere (place_for p.pair.kb1 n) then bad_length else
     if ltb room (shortest_size p n) then no_room else taken
 
 unfoldable pub shortest_built : Plan → ℕ → ℕ → Built

@@ -1,84 +1,69 @@
 // A frame built into a lent buffer.
-ghost use Rattle.std.specs.Prelude.{◌≡◌, ◌+◌, ◌≤◌, ◌<◌, length, set};
+ghost use Rattle.std.specs.Prelude.{◌≡◌, ◌+◌, ◌≤◌, ◌<◌, length, set, IfOk};
+ghost use Rattle.base.specs.Refusals.{no_of};
 ghost use Rattle.frame.specs.Layout.{addresses_of, extra_of, address_count, extra_count, head_size, head_of, frame_of};
-ghost use Rattle.frame.specs.Build.{place_for, only_in, place_chosen, place_in, build_no, put, over, Builds, Writable};
+ghost use Rattle.frame.specs.Build.{place_for, only_in, place_chosen, place_in, build_no, built_as, put, over, Builds, Writable};
 
-use crate::{Built, IN_EXTRA_BYTE, IN_FORMAT_BYTE, Place, Plan, SHORTEST, layout};
+use crate::{IN_EXTRA_BYTE, IN_FORMAT_BYTE, Place, Plan, SHORTEST, layout};
+use base::Refusal;
 use keys::Form;
-
-// Where a length goes that may stand in either place: in the format byte if it can.
-#[tactic(auto, unfolding(crate::specs::Build::place_for))]
-fn place_for(kb1: u8, n: usize) -> Place
-    ensures { result ≡ place_for kb1 n }
-{
-    if keys::length_in_format(kb1) & ((1 <= n) & (n <= 63)) {
-        return Place::Format;
-    }
-    if keys::extra_length(kb1) & ((1 <= n) & (n <= 255)) {
-        return Place::Extra;
-    }
-    Place::Nowhere
-}
 
 // One place and no other: there if it is announced, for a length from 1 to the most that it holds.
 #[tactic(auto, unfolding(crate::specs::Build::only_in))]
-fn only_in(place: Place, announced: bool, n: usize, most: usize) -> Place
+fn only_in(place: Place, announced: bool, n: usize, most: usize) -> Option<Place>
     ensures { result ≡ only_in place announced n most }
 {
-    if !(announced & ((1 <= n) & (n <= most))) {
-        return Place::Nowhere;
-    }
-    place
+    (announced && 1 <= n && n <= most).then_some(place)
+}
+
+// Where a length goes that may stand in either place: in the format byte if it can.
+#[tactic(auto, unfolding(crate::specs::Build::place_for, crate::specs::Build::only_in))]
+fn place_for(kb1: u8, n: usize) -> Option<Place>
+    ensures { result ≡ place_for kb1 n }
+{
+    let in_format = only_in(Place::Format, keys::length_in_format(kb1), n, 63);
+    in_format.or(only_in(Place::Extra, keys::extra_length(kb1), n, 255))
 }
 
 // Where a length goes by the choice.
 #[tactic(auto, unfolding(crate::specs::Build::place_chosen))]
-fn place_chosen(choice: u8, kb1: u8, n: usize) -> Place
+fn place_chosen(choice: u8, kb1: u8, n: usize) -> Option<Place>
     ensures { result ≡ place_chosen choice kb1 n }
 {
-    if choice == SHORTEST {
-        return place_for(kb1, n);
+    match choice {
+        SHORTEST => place_for(kb1, n),
+        IN_FORMAT_BYTE => only_in(Place::Format, keys::length_in_format(kb1), n, 63),
+        IN_EXTRA_BYTE => only_in(Place::Extra, keys::extra_length(kb1), n, 255),
+        _ => None,
     }
-    if choice == IN_FORMAT_BYTE {
-        return only_in(Place::Format, keys::length_in_format(kb1), n, 63);
-    }
-    if choice == IN_EXTRA_BYTE {
-        return only_in(Place::Extra, keys::extra_length(kb1), n, 255);
-    }
-    Place::Nowhere
 }
 
 // Where the length of n bytes goes under a plan.
-fn place_in(p: Plan, n: usize) -> Place
+fn place_in(p: Plan, n: usize) -> Option<Place>
     ensures { result ≡ place_in p n }
 {
-    place_chosen(p.choice, p.kb1, n)
+    place_chosen(p.choice, p.pair.kb1, n)
 }
 
-// The number for n bytes of data and a buffer of so many: 5, 6, 7, 8 in this order, or 0.
-#[tactic(auto, unfolding(crate::specs::Build::build_no, crate::specs::Build::size_of))]
-fn build_no(p: Plan, n: usize, room: usize) -> u8
-    ensures { result ≡ build_no p n room }
+// Where the length of n bytes goes, if they can be built into a buffer of so many: else 5, 6, 7, 8 in this order.
+#[tactic(auto, using(crate::proofs::Announced::place_small), unfolding(crate::specs::Build::build_no, crate::specs::Build::size_of, crate::specs::Layout::is_nowhere, base::specs::Refusals::number_of, base::specs::Refusals::no_of))]
+fn place_allowed(p: Plan, n: usize, room: usize) -> Result<Place, Refusal>
+    ensures number { no_of result ≡ build_no p n room }
+    ensures place { IfOk result (λ place. place_in p n ≡ Some place) }
 {
     let form = layout::form_numbered(p.form);
-    let place = place_in(p, n);
-    if !keys::good_pair(p.kb1, p.kb2) {
-        return base::BAD_KEYS;
+    if !p.pair.is_good() {
+        return Err(Refusal::BadKeys);
     }
-    if IN_EXTRA_BYTE < p.choice {
-        return base::BAD_FORM;
+    if IN_EXTRA_BYTE < p.choice || !keys::takes_form(p.pair.kb1, form) {
+        return Err(Refusal::BadForm);
     }
-    if !keys::takes_form(p.kb1, form) {
-        return base::BAD_FORM;
-    }
-    if layout::is_nowhere(place) {
-        return base::BAD_LENGTH;
-    }
+    let place = place_in(p, n).ok_or(Refusal::BadLength)?;
     let h = layout::head_size(form, place) as usize;
     if room < h + n + 1 {
-        return base::NO_ROOM;
+        return Err(Refusal::NoRoom);
     }
-    base::TAKEN
+    Ok(place)
 }
 
 // Writes the addresses after the format byte, and says where the next byte goes.
@@ -87,41 +72,36 @@ fn put_addresses(form: Form, target: u8, source: u8, out: &mut [u8]) -> usize
     requires { 1 + address_count form ≤ length out.old }
     ensures { (result ≡ 1 + address_count form) × (out.new ≡ put 1 (addresses_of form target source) out.old) }
 {
-    if layout::address_count(form) == 0 {
-        return 1;
+    match form {
+        Form::Plain | Form::Foreign => 1,
+        Form::Physical | Form::Functional => {
+            out[1..3].copy_from_slice(&[target, source]);
+            3
+        }
     }
-    out[1] = target;
-    out[2] = source;
-    3
 }
 
 // Writes the extra length byte, if any, and says where the next byte goes.
 #[tactic(auto, unfolding(crate::specs::Layout::extra_of, crate::specs::Layout::extra_count))]
 fn put_extra(place: Place, n: u8, at: usize, out: &mut [u8]) -> usize
-    requires { at + extra_count place ≤ length out.old }
-    ensures { (result ≡ at + extra_count place) × (out.new ≡ put at (extra_of place n) out.old) }
+    requires { at + extra_count (Some place) ≤ length out.old }
+    ensures { (result ≡ at + extra_count (Some place)) × (out.new ≡ put at (extra_of (Some place) n) out.old) }
 {
-    if layout::extra_count(place) == 0 {
-        return at;
+    match place {
+        Place::Format => at,
+        Place::Extra => {
+            out[at] = n;
+            at + 1
+        }
     }
-    out[at] = n;
-    at + 1
 }
 
-// Writes the data from an index on.
-fn put_data(bytes: &[u8], at: usize, out: &mut [u8])
-    requires { at + length bytes.now ≤ length out.old }
-    ensures { out.new ≡ put at bytes.now out.old }
-{
-    out[at..at + bytes.len()].copy_from_slice(bytes);
-}
-
-// Writes the format byte, the addresses and the extra length byte at the front, and says where the
-// data goes.
-#[tactic(auto, unfolding(crate::specs::Layout::head_size))]
+// Writes the format byte, the addresses and the extra length byte at the front, and says where the data goes.
+#[tactic(auto, using(crate::proofs::Sizes::top_le, crate::proofs::Sizes::low_le), unfolding(crate::specs::Layout::head_size))]
 fn put_head(form: Form, place: Place, p: Plan, n: u8, out: &mut [u8]) -> usize
-    requires { Writable form place n (length out.old) }
-    ensures { (result ≡ head_size form place) × (out.new ≡ over (head_of form place p.target p.source n) out.old) }
+    requires { Writable form (Some place) n (length out.old) }
+    ensures { (result ≡ head_size form (Some place))
+        × (out.new ≡ over (head_of form (Some place) p.target p.source n) out.old) }
 {
     out[0] = layout::top_bits(form) + layout::low_bits(place, n);
     let a = put_addresses(form, p.target, p.source, out);
@@ -138,36 +118,25 @@ fn put_byte(x: u8, at: usize, out: &mut [u8])
 
 // Writes a frame at the front of a buffer that has room for it.
 fn write(form: Form, place: Place, p: Plan, bytes: &[u8], out: &mut [u8]) -> usize
-    requires { Writable form place (length bytes.now) (length out.old) }
-    ensures { (result ≡ head_size form place + length bytes.now + 1)
-        × (out.new ≡ over (frame_of form place p.target p.source bytes.now) out.old) }
+    requires { Writable form (Some place) (length bytes.now) (length out.old) }
+    ensures { (result ≡ head_size form (Some place) + length bytes.now + 1)
+        × (out.new ≡ over (frame_of form (Some place) p.target p.source bytes.now) out.old) }
 {
     let n = bytes.len();
     let h = put_head(form, place, p, n as u8, out);
-    put_data(bytes, h, out);
     let e = h + n;
-    let c = layout::checksum(&out[..e]);
-    put_byte(c, e, out);
+    out[h..e].copy_from_slice(bytes);
+    put_byte(layout::checksum(&out[..e]), e, out);
     e + 1
 }
 
-// Builds a frame at the front of `out`, with the length in the place chosen, and touches nothing
-// after it. A refusal touches nothing at all: 5 the key bytes, 6 the choice or the form, 7 the length
-// or its place, 8 the room, the first that applies.
+// Builds a frame at the front of `out`, with the length in the place chosen, and touches nothing after it: how long it is.
+// A refusal touches nothing at all: 5 the key bytes, 6 the choice or the form, 7 the length or its place, 8 the room, the first
+// that applies.
 #[tactic(auto, unfolding(crate::specs::Build::planned))]
-pub fn build(p: Plan, bytes: &[u8], out: &mut [u8]) -> Built
-    ensures { Builds p bytes.now out.old result out.new }
+pub fn build(p: Plan, bytes: &[u8], out: &mut [u8]) -> Result<usize, Refusal>
+    ensures { Builds p bytes.now out.old (built_as result) out.new }
 {
-    let n = bytes.len();
-    let no = build_no(p, n, out.len());
-    if no != base::TAKEN {
-        return Built { no: no, len: 0 };
-    }
-    let form = layout::form_numbered(p.form);
-    let place = place_in(p, n);
-    let len = write(form, place, p, bytes, out);
-    Built {
-        no: base::TAKEN,
-        len: len,
-    }
+    let place = place_allowed(p, bytes.len(), out.len())?;
+    Ok(write(layout::form_numbered(p.form), place, p, bytes, out))
 }

@@ -1,2 +1,4 @@
+mod AllKeys
 pub mod Eighteen
+pub mod Masks
 pub mod One

@@ -9,9 +9,11 @@ use Rattle.keys.specs.declared.Form.{Form}
 use Rattle.keys.specs.declared.Pair.{Pair}
 use Rattle.keys.specs.declared.Edition.{Edition}
 
+-- `Pair::is_good`
 pub good_pair_lem : (kb1 kb2 : ℕ) → Only (λ (r : Bool). r ≡ good_pair kb1 kb2)
 good_pair_lem kb1 kb2 = only (good_pair kb1 kb2)
 
+-- the functions of KB1 alone
 pub length_in_format_lem : (kb1 : ℕ) → Only (λ (r : Bool). r ≡ length_in_format kb1)
 length_in_format_lem kb1 = only (length_in_format kb1)
 
@@ -30,6 +32,7 @@ is_extended_lem kb1 = only (is_extended kb1)
 pub takes_form_lem : (kb1 : ℕ) (form : Form) → Only (λ (r : Bool). r ≡ takes_form kb1 form)
 takes_form_lem kb1 form = only (takes_form kb1 form)
 
+-- `Pair::edition`, `is_car`, `is_quick` and `is_slow_from`
 pub edition_of_lem : (pair : Pair) → Only (λ (r : Edition). r ≡ edition_of pair)
 edition_of_lem pair = only (edition_of pair)
 

@@ -7,7 +7,7 @@ ghost use Rattle.keys.specs.Editions.{edition_of, is_car, is_quick, is_slow_pair
 
 // The form of a frame. Foreign is what is none of ours: mode 01 (CARB) of a format byte, or a form
 // number above 2.
-#[derive(Clone, Copy)]
+#[derive(Clone, Copy, Debug, PartialEq, Eq)]
 pub enum Form {
     Plain,
     Physical,
@@ -16,14 +16,14 @@ pub enum Form {
 }
 
 // A pair of key bytes, as a unit announces it.
-#[derive(Clone, Copy)]
+#[derive(Clone, Copy, Debug, PartialEq, Eq)]
 pub struct Pair {
     pub kb1: u8,
     pub kb2: u8,
 }
 
 // The edition that a unit's key bytes choose: ISO 14230, or ISO 9141-2 with 08 08 or with 94 94.
-#[derive(Clone, Copy)]
+#[derive(Clone, Copy, Debug, PartialEq, Eq)]
 pub enum Edition {
     Iso14230,
     Car08,
@@ -33,26 +33,55 @@ pub enum Edition {
 // The address that cars answer.
 const CAR_ADDRESS: u8 = 0x33;
 
-// Whether a pair of key bytes is good.
-#[tactic(auto, unfolding(crate::specs::Keys::good_pair, crate::specs::Keys::length_in_format, crate::specs::Keys::extra_length, crate::specs::Keys::no_addresses, crate::specs::Keys::with_addresses))]
-pub fn good_pair(kb1: u8, kb2: u8) -> bool
-    ensures { result ≡ good_pair kb1 kb2 }
-{
-    let b0 = kb1 % 2;
-    let b1 = kb1 / 2 % 2;
-    let b2 = kb1 / 4 % 2;
-    let b3 = kb1 / 8 % 2;
-    let b4 = kb1 / 16 % 2;
-    let b5 = kb1 / 32 % 2;
-    let b6 = kb1 / 64 % 2;
-    let b7 = kb1 / 128 % 2;
-    let ones = b0 + b1 + b2 + b3 + b4 + b5 + b6 + b7;
-    (kb2 == 0x8F)
-        & (ones % 2 == 1)
-        & (b6 == 1)
-        & (b4 + b5 == 1)
-        & ((b0 == 1) | (b1 == 1))
-        & ((b2 == 1) | (b3 == 1))
+impl Pair {
+    // Whether the pair is good.
+    #[tactic(auto, using(crate::proofs::Masks::good_by_masks))]
+    pub fn is_good(self) -> bool
+        ensures { result ≡ good_pair self.kb1 self.kb2 }
+    {
+        self.kb2 == 0x8F
+            && self.kb1.count_ones() % 2 == 1
+            && self.kb1 & 0x40 != 0
+            && (self.kb1 & 0x30).count_ones() == 1
+            && self.kb1 & 0x03 != 0
+            && self.kb1 & 0x0C != 0
+    }
+
+    // The edition that the pair chooses.
+    #[tactic(auto, unfolding(crate::specs::Editions::edition_of))]
+    pub fn edition(self) -> Edition
+        ensures { result ≡ edition_of self }
+    {
+        match (self.kb1, self.kb2) {
+            (0x08, 0x08) => Edition::Car08,
+            (0x94, 0x94) => Edition::Car94,
+            _ => Edition::Iso14230,
+        }
+    }
+
+    // Whether the pair is a car's.
+    #[tactic(auto, unfolding(crate::specs::Editions::is_car))]
+    pub fn is_car(self) -> bool
+        ensures { result ≡ is_car (edition_of self) }
+    {
+        matches!(self.edition(), Edition::Car08 | Edition::Car94)
+    }
+
+    // Whether a unit with this pair may answer at once.
+    #[tactic(auto, unfolding(crate::specs::Editions::is_quick))]
+    pub fn is_quick(self) -> bool
+        ensures { result ≡ is_quick (edition_of self) }
+    {
+        self.edition() == Edition::Car94
+    }
+
+    // Whether the pair is right in a slow start from an address: a good one, or a car's from its address.
+    #[tactic(auto, unfolding(crate::specs::Editions::is_slow_pair))]
+    pub fn is_slow_from(self, address: u8) -> bool
+        ensures { result ≡ is_slow_pair address self }
+    {
+        self.is_good() || address == CAR_ADDRESS && self.is_car()
+    }
 }
 
 // Whether KB1 announces a length in the format byte.
@@ -60,39 +89,39 @@ pub fn good_pair(kb1: u8, kb2: u8) -> bool
 pub fn length_in_format(kb1: u8) -> bool
     ensures { result ≡ length_in_format kb1 }
 {
-    kb1 % 2 == 1
+    kb1 & 0x01 != 0
 }
 
 // Whether KB1 announces an extra length byte.
-#[tactic(auto, unfolding(crate::specs::Keys::extra_length))]
+#[tactic(auto, using(crate::proofs::Masks::extra_length_by_mask))]
 pub fn extra_length(kb1: u8) -> bool
     ensures { result ≡ extra_length kb1 }
 {
-    kb1 / 2 % 2 == 1
+    kb1 & 0x02 != 0
 }
 
 // Whether KB1 announces frames with no addresses.
-#[tactic(auto, unfolding(crate::specs::Keys::no_addresses))]
+#[tactic(auto, using(crate::proofs::Masks::no_addresses_by_mask))]
 pub fn no_addresses(kb1: u8) -> bool
     ensures { result ≡ no_addresses kb1 }
 {
-    kb1 / 4 % 2 == 1
+    kb1 & 0x04 != 0
 }
 
 // Whether KB1 announces frames with target and source.
-#[tactic(auto, unfolding(crate::specs::Keys::with_addresses))]
+#[tactic(auto, using(crate::proofs::Masks::with_addresses_by_mask))]
 pub fn with_addresses(kb1: u8) -> bool
     ensures { result ≡ with_addresses kb1 }
 {
-    kb1 / 8 % 2 == 1
+    kb1 & 0x08 != 0
 }
 
 // Whether KB1 announces extended timing.
-#[tactic(auto, unfolding(crate::specs::Keys::is_extended))]
+#[tactic(auto, using(crate::proofs::Masks::is_extended_by_mask))]
 pub fn is_extended(kb1: u8) -> bool
     ensures { result ≡ is_extended kb1 }
 {
-    kb1 / 16 % 2 == 1
+    kb1 & 0x10 != 0
 }
 
 // Whether KB1 takes frames of a form.
@@ -103,60 +132,7 @@ pub fn takes_form(kb1: u8, form: Form) -> bool
     match form {
         Form::Plain => no_addresses(kb1),
         Form::Physical => with_addresses(kb1),
-        Form::Functional => {
-            let addressed = with_addresses(kb1);
-            let extended = is_extended(kb1);
-            addressed & !extended
-        }
+        Form::Functional => with_addresses(kb1) && !is_extended(kb1),
         Form::Foreign => false,
     }
-}
-
-// The edition that a pair chooses.
-#[tactic(auto, unfolding(crate::specs::Editions::edition_of))]
-pub fn edition_of(pair: Pair) -> Edition
-    ensures { result ≡ edition_of pair }
-{
-    if (pair.kb1 == 0x08) & (pair.kb2 == 0x08) {
-        return Edition::Car08;
-    }
-    if (pair.kb1 == 0x94) & (pair.kb2 == 0x94) {
-        return Edition::Car94;
-    }
-    Edition::Iso14230
-}
-
-// Whether a pair is a car's.
-#[tactic(auto, unfolding(crate::specs::Editions::is_car))]
-pub fn is_car(pair: Pair) -> bool
-    ensures { result ≡ is_car (edition_of pair) }
-{
-    let edition = edition_of(pair);
-    match edition {
-        Edition::Iso14230 => false,
-        Edition::Car08 => true,
-        Edition::Car94 => true,
-    }
-}
-
-// Whether a unit with this pair may answer at once.
-#[tactic(auto, unfolding(crate::specs::Editions::is_quick))]
-pub fn is_quick(pair: Pair) -> bool
-    ensures { result ≡ is_quick (edition_of pair) }
-{
-    let edition = edition_of(pair);
-    match edition {
-        Edition::Iso14230 => false,
-        Edition::Car08 => false,
-        Edition::Car94 => true,
-    }
-}
-
-// Whether a pair is right in a slow start from an address: a good one, or a car's from its address.
-#[tactic(auto, unfolding(crate::specs::Editions::is_slow_pair))]
-pub fn is_slow_pair(address: u8, pair: Pair) -> bool
-    ensures { result ≡ is_slow_pair address pair }
-{
-    let car = is_car(pair);
-    good_pair(pair.kb1, pair.kb2) | ((address == CAR_ADDRESS) & car)
 }

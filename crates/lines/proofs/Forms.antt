@@ -21,7 +21,7 @@ use Rattle.lines.specs.declared.Place.{Place}
 use Rattle.lines.specs.declared.Place.TheVariants.{BeforeSide, AtSide, BeforeHex, High, Low, BeforeTime, Time, BeforeStart, Start, End}
 use Rattle.lines.specs.declared.Reading.{Reading}
 use Rattle.words.proofs.Within.{digit_within, capital_within}
-use Rattle.lines.proofs.Laws.{few_digits, below, more}
+use Rattle.lines.proofs.Laws.{few_digits, low, next, at, Takes, takes_start, takes_end, start_over}
 
 -- ---- THE TEXT OF A LINE, without its line feed
 -- "one space between"
@@ -74,10 +74,6 @@ abbrev pub drop_line : List ℕ → List ℕ
 drop_line t = (0x44 ∷ []) ␣ t
 
 -- ---- laws: from the text to the event
--- a line as far as it was read
-abbrev at : Kind → Side → ℕ → ℕ → ℕ → ℕ → Place → Reading
-at kind side value start end digits place = record { start = start; end = end; digits = digits; value = value; kind = kind; side = side; place = place }
-
 AllDigits : List ℕ → Type 0
 AllDigits w = (i : ℕ) → i < length w → (0x30 ≤ get_or w i 0) × (get_or w i 0 ≤ 0x39)
 
@@ -98,41 +94,28 @@ unfolding read_all
 read_append r [] w = refl
 read_append r (b ∷ v) w = read_append (read_byte r b) v w
 
--- f is the reading of a time that has so many digits so far
-abbrev Takes : (ℕ → ℕ → Reading) → Type 0
-Takes f = (n c b : ℕ) → is_digit b ≡ true → c < 13 → n < 1_000_000_000_000 → read_byte (f n c) b ≡ f (n * 10 + (b - 0x30)) (c + 1)
-
 takes_time : (kind : Kind) (side : Side) (v : ℕ) → Takes (λ n c. at kind side v n n c Time)
 unfolding read_byte time_read takes_digit digit_on
 takes_time kind side v n c b e h l = rw (e, lt-ltb c 13 h, mod-eq_of_lt l)
 
-takes_start : (kind : Kind) (side : Side) (v : ℕ) → Takes (λ n c. at kind side v n 0 c Start)
-unfolding read_byte start_read takes_digit digit_on
-takes_start kind side v n c b e h l = rw (e, lt-ltb c 13 h, mod-eq_of_lt l)
-
-takes_end : (kind : Kind) (side : Side) (v start : ℕ) → Takes (λ n c. at kind side v start n c End)
-unfolding read_byte end_read takes_digit digit_on
-takes_end kind side v start n c b e h l = rw (e, lt-ltb c 13 h, mod-eq_of_lt l)
-
--- digits where k more may come
-digits_read : (f : ℕ → ℕ → Reading) → Takes f → (w : List ℕ) (n k : ℕ) → AllDigits w → k ≤ 13 → length w ≤ k → n < 10 ^ (13 - k)
-    → read_all (f n (13 - k)) w ≡ f (value_from n w) (13 - k + length w)
+-- digits after c others
+digits_read : (f : ℕ → ℕ → Reading) → Takes f → (w : List ℕ) (n c : ℕ) → AllDigits w → c + length w ≤ 13 → n < 10 ^ c
+    → read_all (f n c) w ≡ f (value_from n w) (c + length w)
 unfolding read_all value_from
-digits_read f t [] n k a h l s = let z : 13 - k + 0 ≡ 13 - k = omega arith in rw z
-digits_read f t (b ∷ w) n k a h l s =
+digits_read f t [] n c a l s = let z : c + 0 ≡ c = omega arith in rw z
+digits_read f t (b ∷ w) n c a l s =
     let d = all_first b w a in
-    let z : 13 - k + 1 ≡ 13 - (k - 1) = omega arith in
-    let y : 13 - (k - 1) + length w ≡ 13 - k + suc (length w) = omega arith in
-    ap (λ (r : Reading). read_all r w) (t n (13 - k) b (is_digit_lem b d) (omega arith) (below k n (omega arith) h s) ∙ ap (f (n * 10 + (b - 0x30))) z)
-    ∙ (digits_read f t w (n * 10 + (b - 0x30)) (k - 1) (all_rest b w a) (omega arith) (omega arith) (more k n (b - 0x30) (omega arith) h s (omega (arith, d.0, d.1)))
-    ∙ ap (f (value_from (n * 10 + (b - 0x30)) w)) y)
+    let z : c + 1 + length w ≡ c + suc (length w) = omega arith in
+    ap (λ (r : Reading). read_all r w) (t n c b (is_digit_lem b d) (omega arith) (low n c (omega arith) s))
+    ∙ (digits_read f t w (n * 10 + (b - 0x30)) (c + 1) (all_rest b w a) (omega arith) (next n c (b - 0x30) s (omega (arith, d.0, d.1)))
+    ∙ ap (f (value_from (n * 10 + (b - 0x30)) w)) z)
 
 -- a time
 time_read_lem : (f : ℕ → ℕ → Reading) → Takes f → (w : List ℕ) → Digits w → read_all (f 0 0) w ≡ f (value_of w) (length w)
 unfolding AllDigits
 time_read_lem f t w d =
     let z : 0 + length w ≡ length w = omega arith in
-    digits_read f t w 0 13 d.each (omega arith) d.few (omega arith) ∙ ap (f (value_of w)) z
+    digits_read f t w 0 0 d.each (omega (arith, d.few)) (omega arith) ∙ ap (f (value_of w)) z
 
 -- the one time of a tick or a drop, and the line's end
 one_time : (kind : Kind) (t : List ℕ) → Digits t
@@ -140,11 +123,6 @@ one_time : (kind : Kind) (t : List ℕ) → Digits t
     ≡ record { start = micros (value_of t); end = micros (value_of t); kind = kind; side = Nobody; value = 0 }
 unfolding event_of is_whole is_last
 one_time kind t d = rw (time_read_lem (λ n c. at kind Nobody 0 n n c Time) (takes_time kind Nobody 0) t d, lt-ltb 0 (length t) d.some)
-
--- the space between two
-start_over : (kind : Kind) (side : Side) (v n c : ℕ) → 0 < c → read_byte (at kind side v n 0 c Start) 0x20 ≡ at kind side v n 0 0 End
-unfolding read_byte start_read takes_digit is_digit
-start_over kind side v n c h = rw (lt-ltb 0 c h)
 
 two_read : (kind : Kind) (side : Side) (v : ℕ) (t u : List ℕ) → Digits t → Digits u
     → read_all (at kind side v 0 0 0 Start) (t ␣ u) ≡ at kind side v (value_of t) (value_of u) (length u) End

@@ -1,10 +1,10 @@
 -- Any two results that meet a public function's promise are equal. Assumes nothing.
-use Rattle.std.proofs.Common.{◌≡◌, ℕ, Bool, List, drop}
+use Rattle.std.proofs.Common.{◌≡◌, ℕ, Bool, List, Option, drop}
 use Rattle.base.proofs.One.{Only, only}
 use Rattle.events.specs.declared.Event.{Event}
 use Rattle.lines.specs.Lines.{fresh_reading, read_byte, is_empty, event_of}
 use Rattle.lines.specs.Getting.{got_of}
-use Rattle.lines.specs.Quick.{no_row, row_of, row_got}
+use Rattle.lines.specs.Quick.{row_of, row_got}
 use Rattle.lines.specs.declared.Reading.{Reading}
 use Rattle.lines.specs.declared.Got.{Got}
 use Rattle.lines.specs.declared.Row.{Row}
@@ -24,11 +24,8 @@ event_of_lem r = only (event_of r)
 pub get_line : (r : Reading) (s : List ℕ) (at : ℕ) → Only (λ (x : Got). x ≡ got_of r (drop at s) at)
 get_line r s at = only (got_of r (drop at s) at)
 
-pub byte_line : (s : List ℕ) (at : ℕ) → Only (λ (x : Row). x ≡ row_of s at)
+pub byte_line : (s : List ℕ) (at : ℕ) → Only (λ (x : Option Row). x ≡ row_of s at)
 byte_line s at = only (row_of s at)
 
 pub got_row : (q : Row) → Only (λ (x : Got). x ≡ row_got q)
 got_row q = only (row_got q)
-
-pub no_row_lem : Only (λ (x : Row). x ≡ no_row)
-no_row_lem = only no_row

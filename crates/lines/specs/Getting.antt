@@ -1,6 +1,6 @@
 -- Lines out of a part of the input, which may begin and end within a line. Assumes nothing.
-use Rattle.std.specs.Prelude.{ℕ, ◌+◌, true, false, List, [], ◌∷◌, ◌==◌, if◌then◌else◌}
-use Rattle.lines.specs.Lines.{fresh_reading, read_byte, no_event, event_of}
+use Rattle.std.specs.Prelude.{ℕ, ◌+◌, List, [], ◌∷◌, Some, None, ◌==◌, if◌then◌else◌}
+use Rattle.lines.specs.Lines.{fresh_reading, read_byte, event_of}
 use Rattle.lines.specs.declared.Reading.{Reading}
 use Rattle.lines.specs.declared.Got.{Got}
 
@@ -9,11 +9,11 @@ line_feed = 10
 
 -- the line ended in front of `at`
 unfoldable pub ended : Reading → ℕ → Got
-ended r at = record { event = event_of r; reading = fresh_reading; at = at; whole = true }
+ended r at = record { line = Some (event_of r); reading = fresh_reading; at = at }
 
 -- the part ended in front of `at`
 unfoldable pub cut_off : Reading → ℕ → Got
-cut_off r at = record { event = no_event; reading = r; at = at; whole = false }
+cut_off r at = record { line = None; reading = r; at = at }
 
 -- The rest of a line of which r was read: up to its line feed, or to the part's end. The bytes stand at `at` and after.
 unfoldable pub got_of : Reading → List ℕ → ℕ → Got

@@ -3,11 +3,11 @@ ghost use Rattle.std.specs.Prelude.{◌≡◌, drop};
 ghost use Rattle.lines.specs.Getting.{got_of, ended, cut_off};
 ghost use Rattle.lines.specs.Quick.{row_got};
 
-use crate::bytewise::{begin, event_of, no_event, read_byte};
+use crate::bytewise::{begin, event_of, read_byte};
 use crate::{Got, Reading, Row};
 
 // The byte that ends a line.
-const LINE_FEED: u8 = 10;
+pub(crate) const LINE_FEED: u8 = 10;
 
 // A line has ended in front of a place.
 #[tactic(auto, unfolding(crate::specs::Getting::ended))]
@@ -15,10 +15,9 @@ fn end(r: Reading, at: usize) -> Got
     ensures { result ≡ ended r at }
 {
     Got {
-        event: event_of(r),
+        line: Some(event_of(r)),
         reading: begin(),
-        at: at,
-        whole: true,
+        at,
     }
 }
 
@@ -28,10 +27,9 @@ fn cut_off(r: Reading, at: usize) -> Got
     ensures { result ≡ cut_off r at }
 {
     Got {
-        event: no_event(),
+        line: None,
         reading: r,
-        at: at,
-        whole: false,
+        at,
     }
 }
 
@@ -41,29 +39,24 @@ pub fn get_line(r: Reading, s: &[u8], at: usize) -> Got
     ensures { result ≡ got_of r (drop at s.now) at }
 {
     let mut x = r;
-    let mut i = at;
-    while i < s.len() {
+    for i in at..s.len() {
         let b = s[i];
         if b == LINE_FEED {
             return end(x, i + 1);
         }
         x = read_byte(x, b);
-        i += 1;
     }
-    cut_off(x, i)
+    cut_off(x, at.max(s.len()))
 }
 
-// What the line of a byte that was read at once gives. (A row whose place is 0 is none: then this
-// says nothing of use.)
+// What the line of a byte that was read at once gives.
 #[tactic(auto, unfolding(crate::specs::Quick::row_got))]
 pub fn got_row(q: Row) -> Got
     ensures { result ≡ row_got q }
 {
-    let e = q.event;
     Got {
-        event: e,
+        line: Some(q.event),
         reading: begin(),
         at: q.to,
-        whole: true,
     }
 }

@@ -2,14 +2,15 @@
 -- definition that has changed, and each that stands on one, under its name with `old` in front. The second half proves that for a link whose pair is no car's each
 -- of them is today's, and so is the step (`same_step`), unless the event is a second key byte that completes 08 08 or 94 94 after address 33.
 -- Assumes nothing.
-use Prim.Native.Nat.{ℕ, zero, suc, ◌≤◌}
+use Prim.Native.Nat.{ℕ, ◌+◌, ◌≤◌}
 use mathlib.Core.Bool.{Bool, true, false, not, ◌&&◌, ◌||◌, false≢true}
-use mathlib.Core.List.{List, [], ◌∷◌}
+use mathlib.Core.List.{List}
 use mathlib.Core.Path.{◌≡◌, ◌∙◌, refl, sym, ap, subst}
 use native.Mathlib.Omega.{arith}
-use borrow.Author.Tests.{eqb-true}
-use lib.Dec.{eqb}
-use lib.ListN.{take}
+use borrow.Author.Tests.{eqb-true, ltb-true, ltb-false}
+use lib.Dec.{eqb, ltb}
+use lib.ListN.{take, set, length-set}
+use Rattle.std.proofs.lemmas.List.{take-take}
 use Rattle.std.specs.Prelude.{if◌then◌else◌}
 use Rattle.base.specs.Numbers.{taken}
 use Rattle.base.specs.Reports.{frame_report, damage_report, connected_report, failed_report, outside_report}
@@ -54,7 +55,7 @@ use Rattle.moves.specs.Moves.{starting_slow, starting_fast, is_cut_in, before_by
 use Rattle.moves.specs.declared.Move.{Move}
 use Rattle.moves.proofs.Rules.{at_silence, at_p2, at_p3, at_window, Rule, rests, ends_right, breaks_off, waited, idled, expires}
 use Rattle.moves.proofs.Rules.{by_silence, by_p2, by_p3, by_window}
-use Rattle.reports.specs.Reporting.{names_bytes, report_of, appended, listed, told, with_phase, moved}
+use Rattle.reports.specs.Reporting.{places, names_bytes, report_of, appended, listed, told, with_phase, moved}
 use Rattle.reports.specs.Counting.{counted_all, counted_byte, counted_event}
 use Rattle.reports.specs.declared.Report.{Report}
 use Rattle.reports.specs.declared.Reports.{Reports}
@@ -70,8 +71,8 @@ use Rattle.link.proofs.Ways.{off_right}
 use Rattle.link.proofs.Walk.{moved_phase}
 use Rattle.link.proofs.Four.{three_enough}
 
--- ======== THE OLD TEXTS. The types are today's: a message's next byte may be one part more (`Free`), and there is one place more for a report (d). No rule here
--- makes the one or fills the other. (`no_reports` is today's, with all four empty.)
+-- ======== THE OLD TEXTS. The types are today's: a message's next byte may be one part more (`Free`), and there is one place more for a report, the fourth. No rule
+-- here makes the one or fills the other. (`no_reports` is today's, with all four empty.)
 
 -- ---- timing
 unfoldable pub old_set_of : Pair → Windows
@@ -217,14 +218,17 @@ unfoldable pub old_after_byte : Phase → Side → ℕ → Micros → Micros →
 old_after_byte p side v mark start = old_byte_in p.state p side v mark start
 
 -- ---- reports: three places, and the fourth stays as it is
+abbrev pub old_places : ℕ
+old_places = 3
+
 unfoldable pub old_appended : Reports → Report → Reports
 old_appended rs r =
-    if eqb rs.n 0 then record { a = r; b = rs.b; c = rs.c; d = rs.d; n = 1 } else
-    if eqb rs.n 1 then record { a = rs.a; b = r; c = rs.c; d = rs.d; n = 2 } else
-    if eqb rs.n 2 then record { a = rs.a; b = rs.b; c = r; d = rs.d; n = 3 } else rs
+    if ltb rs.n old_places
+    then record { places = set rs.places rs.n r; n = rs.n + 1; full = length-set rs.places rs.n r ∙ rs.full }
+    else rs
 
 abbrev pub old_in_places : Reports → List Report
-old_in_places rs = rs.a ∷ rs.b ∷ rs.c ∷ []
+old_in_places rs = take old_places rs.places
 
 unfoldable pub old_listed : Reports → List Report
 old_listed rs = take rs.n (old_in_places rs)
@@ -491,25 +495,20 @@ NoFewer rs ss = rs.n ≤ ss.n
 
 appended_more : (rs : Reports) (x : Report) → NoFewer rs (appended rs x)
 unfolding appended
-appended_more rs x =
-    by_test (NoFewer rs) (eqb rs.n 0) (λ t. omega (arith, eqb-true rs.n 0 t))
-    (λ _. by_test (NoFewer rs) (eqb rs.n 1) (λ t. omega (arith, eqb-true rs.n 1 t))
-    (λ _. by_test (NoFewer rs) (eqb rs.n 2) (λ t. omega (arith, eqb-true rs.n 2 t))
-    (λ _. by_test (NoFewer rs) (eqb rs.n 3) (λ t. omega (arith, eqb-true rs.n 3 t)) (λ _. omega arith))))
+appended_more rs x = by_test (NoFewer rs) (ltb rs.n places) (λ _. omega arith) (λ _. omega arith)
 
-abbrev four_places : Report → Report → Report → Report → ℕ → Reports
-four_places a b c d n = record { a = a; b = b; c = c; d = d; n = n }
-
-appended_at : (a b c d x : Report) (n : ℕ) → (appended (four_places a b c d n) x).n ≤ 3 → appended (four_places a b c d n) x ≡ old_appended (four_places a b c d n) x
+appended_by : (b d : Bool) (rs : Reports) (x : Report) → ltb rs.n places ≡ b → ltb rs.n old_places ≡ d → (appended rs x).n ≤ 3
+    → appended rs x ≡ old_appended rs x
 unfolding appended old_appended
-appended_at a b c d x zero h = refl
-appended_at a b c d x (suc zero) h = refl
-appended_at a b c d x (suc (suc zero)) h = refl
-appended_at a b c d x (suc (suc (suc zero))) h = absurd (omega arith)
-appended_at a b c d x (suc (suc (suc (suc n)))) h = absurd (omega (arith, appended_more (four_places a b c d (suc (suc (suc (suc n))))) x))
+appended_by true true rs x p q h = rw (p, q) refl
+appended_by true false rs x p q h =
+    let k : rs.n + 1 ≤ 3 = rw p at h in
+    absurd (omega (arith, ltb-false rs.n old_places q))
+appended_by false true rs x p q h = absurd (omega (arith, ltb-false rs.n places p, ltb-true rs.n old_places q))
+appended_by false false rs x p q h = rw (p, q) refl
 
 pub same_appended : (rs : Reports) (x : Report) → (appended rs x).n ≤ 3 → appended rs x ≡ old_appended rs x
-same_appended rs x h = appended_at rs.a rs.b rs.c rs.d x rs.n h
+same_appended rs x h = appended_by (ltb rs.n places) (ltb rs.n old_places) rs x refl refl h
 
 moved_more : (r : Run) (m : Move) → NoFewer r.reports (moved r m).reports
 unfolding moved told
@@ -527,17 +526,10 @@ moved_by false r m q h =
 pub same_moved : (r : Run) (m : Move) → (moved r m).reports.n ≤ 3 → moved r m ≡ old_moved r m
 same_moved r m h = moved_by (eqb m.number 0) r m refl h
 
-listed_at : (a b c d : Report) (n : ℕ) → n ≤ 3 → listed (four_places a b c d n) ≡ old_listed (four_places a b c d n)
-unfolding listed old_listed
-listed_at a b c d zero h = refl
-listed_at a b c d (suc zero) h = refl
-listed_at a b c d (suc (suc zero)) h = refl
-listed_at a b c d (suc (suc (suc zero))) h = refl
-listed_at a b c d (suc (suc (suc (suc n)))) h = absurd (omega arith)
-
 -- the reports of an event, and how they are counted
 pub same_listed : (rs : Reports) → rs.n ≤ 3 → listed rs ≡ old_listed rs
-same_listed rs h = listed_at rs.a rs.b rs.c rs.d rs.n h
+unfolding listed old_listed
+same_listed rs h = sym (take-take rs.n old_places rs.places h)
 
 pub same_counted : (c : Counts) (hears : Bool) (rs : Reports) → rs.n ≤ 3 → counted_event c hears rs ≡ old_counted_event c hears rs
 unfolding counted_event old_counted_event

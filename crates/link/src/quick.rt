@@ -16,12 +16,11 @@ use units::Micros;
 fn limit_of(p: Phase) -> Limit
     ensures { result ≡ limit_of p }
 {
-    let reply = p.reply;
-    let w = p.windows;
-    if talk::is_first(reply) {
-        return w.p2max;
+    if talk::is_first(p.reply) {
+        p.windows.p2max
+    } else {
+        p.windows.p3max
     }
-    w.p3max
 }
 
 // Whether no time runs out.
@@ -29,26 +28,11 @@ fn limit_of(p: Phase) -> Limit
 pub(crate) fn is_calm(p: Phase, mark: Micros, start: Micros) -> bool
     ensures { result ≡ is_calm p mark start }
 {
-    let state = p.state;
-    let s = p.start;
-    match state {
+    match p.state {
         State::Down => true,
-        State::Starting => {
-            let over = starts::is_past(s, moves::since_origin(p, mark, start));
-            !over
-        }
-        State::Quiet => {
-            let over = timing::passed(limit_of(p), units::gap(mark, start));
-            !over
-        }
-        State::Held => {
-            let over = moves::is_silent(units::gap(mark, start));
-            !over
-        }
-        State::Damage => {
-            let over = moves::is_silent(units::gap(mark, start));
-            !over
-        }
+        State::Starting => !starts::is_past(p.start, moves::since_origin(p, mark, start)),
+        State::Quiet => !timing::passed(limit_of(p), units::gap(mark, start)),
+        State::Held | State::Damage => !moves::is_silent(units::gap(mark, start)),
     }
 }
 
@@ -57,9 +41,7 @@ pub(crate) fn is_calm(p: Phase, mark: Micros, start: Micros) -> bool
 pub(crate) fn cuts(p: Phase, e: Event) -> bool
     ensures { result ≡ cuts_by p e }
 {
-    let kind = e.kind;
-    let side = e.side;
-    moves::is_cut_in(p, side) & events::is_byte(kind)
+    moves::is_cut_in(p, e.side) & events::is_byte(e.kind)
 }
 
 // A byte that makes no report.
@@ -67,11 +49,10 @@ pub(crate) fn cuts(p: Phase, e: Event) -> bool
 pub(crate) fn go_on(l: Link, e: Event, p: Phase) -> Answer
     ensures { result ≡ went_on l e p }
 {
-    let end = e.end;
     Answer {
         link: Link {
-            clock: end,
-            mark: end,
+            clock: e.end,
+            mark: e.end,
             taken: base::count_sum(l.taken, 1),
             heard: base::count_sum(l.heard, 1),
             named: l.named,
@@ -87,14 +68,7 @@ pub(crate) fn go_on(l: Link, e: Event, p: Phase) -> Answer
 fn is_inside(part: Part) -> bool
     ensures { result ≡ is_inside part }
 {
-    match part {
-        Part::Target => true,
-        Part::Source => true,
-        Part::Length => false,
-        Part::Data => true,
-        Part::Sum => false,
-        Part::Free => true,
-    }
+    !matches!(part, Part::Length | Part::Sum)
 }
 
 // Whether a byte goes on with the message held.
@@ -103,17 +77,10 @@ pub(crate) fn goes_on(l: Link, e: Event) -> bool
     ensures { result ≡ goes_on l e }
 {
     let p = l.phase;
-    let m = p.message;
-    let kind = e.kind;
-    let state = p.state;
-    let side = e.side;
-    let whose = m.side;
-    let part = m.part;
-    let over = moves::is_silent(units::gap(l.mark, e.start));
-    events::is_byte(kind)
-        & phases::is_held(state)
-        & !over
-        & (events::same_side(side, whose) & is_inside(part))
+    events::is_byte(e.kind)
+        & phases::is_held(p.state)
+        & !moves::is_silent(units::gap(l.mark, e.start))
+        & (events::same_side(e.side, p.message.side) & is_inside(p.message.part))
 }
 
 // Whether a byte is the first of a message, on a 14230 link.
@@ -122,10 +89,8 @@ pub(crate) fn is_first_byte(l: Link, e: Event) -> bool
     ensures { result ≡ is_first_byte l e }
 {
     let p = l.phase;
-    let kind = e.kind;
-    let state = p.state;
-    let over = timing::passed(limit_of(p), units::gap(l.mark, e.start));
-    let s = p.start;
-    let car = keys::is_car(s.pair);
-    events::is_byte(kind) & phases::is_quiet(state) & !over & !car
+    events::is_byte(e.kind)
+        & phases::is_quiet(p.state)
+        & !timing::passed(limit_of(p), units::gap(l.mark, e.start))
+        & !p.start.pair.is_car()
 }

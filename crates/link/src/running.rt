@@ -15,10 +15,7 @@ use reports::Counts;
 pub fn runs_on(l: Link, c: Counts, e: Event) -> bool
     ensures { result ≡ runs_on l c e }
 {
-    if number(l, c, e) != base::TAKEN {
-        return false;
-    }
-    goes_on(l, e)
+    number(l, c, e) == base::TAKEN && goes_on(l, e)
 }
 
 // The link after such an event.
@@ -26,15 +23,12 @@ pub fn runs_on(l: Link, c: Counts, e: Event) -> bool
 pub fn run_on(l: Link, e: Event) -> Link
     ensures { result ≡ ran_on l e }
 {
-    let p = l.phase;
-    let m = p.message;
-    let end = e.end;
     Link {
-        clock: end,
-        mark: end,
+        clock: e.end,
+        mark: e.end,
         taken: base::count_sum(l.taken, 1),
         heard: base::count_sum(l.heard, 1),
-        named: l.named,
-        phase: phases::hold(p, talk::grow(m, e.value)),
+        phase: phases::hold(l.phase, talk::grow(l.phase.message, e.value)),
+        ..l
     }
 }

@@ -30,15 +30,11 @@ pub fn fresh() -> Link
 fn pass(r: Run, mark: Micros, start: Micros) -> Run
     ensures { result ≡ passed r mark start }
 {
-    let p = r.phase;
     let gap = units::gap(mark, start);
-    let r1 = make(r, moves::after_silence(p, gap));
-    let p1 = r1.phase;
-    let r2 = make(r1, moves::after_p2(p1, gap));
-    let p2 = r2.phase;
-    let r3 = make(r2, moves::after_p3(p2, gap));
-    let p3 = r3.phase;
-    make(r3, moves::after_window(p3, mark, start))
+    let r1 = make(r, moves::after_silence(r.phase, gap));
+    let r2 = make(r1, moves::after_p2(r1.phase, gap));
+    let r3 = make(r2, moves::after_p3(r2.phase, gap));
+    make(r3, moves::after_window(r3.phase, mark, start))
 }
 
 // A byte ends what is held, or does not.
@@ -46,23 +42,23 @@ fn pass(r: Run, mark: Micros, start: Micros) -> Run
 fn cut_in(r: Run, e: Event) -> Run
     ensures { result ≡ cut_by r e }
 {
-    let p = r.phase;
-    if cuts(p, e) {
-        return make(r, moves::end_open(p));
+    if cuts(r.phase, e) {
+        make(r, moves::end_open(r.phase))
+    } else {
+        r
     }
-    r
 }
 
 // What comes before an event acts: time passes, and a byte may end what is held.
-#[tactic(auto, unfolding(crate::specs::Quick::approached))]
+#[tactic(auto, unfolding(crate::specs::Quick::approached), using(crate::proofs::Ways::approached_calm))]
 fn approach(r: Run, e: Event, mark: Micros) -> Run
     ensures { result ≡ approached r e mark }
 {
-    let p = r.phase;
-    if is_calm(p, mark, e.start) & !cuts(p, e) {
-        return r;
+    if is_calm(r.phase, mark, e.start) & !cuts(r.phase, e) {
+        r
+    } else {
+        cut_in(pass(r, mark, e.start), e)
     }
-    cut_in(pass(r, mark, e.start), e)
 }
 
 // What is open is closed, and a connected link goes down.
@@ -70,25 +66,17 @@ fn approach(r: Run, e: Event, mark: Micros) -> Run
 fn shut_all(r: Run, reason: u8) -> Run
     ensures { result ≡ shut r reason }
 {
-    let p = r.phase;
-    let r1 = make(r, moves::close_open(p));
-    let p1 = r1.phase;
-    make(r1, moves::leave(p1, reason))
+    let r1 = make(r, moves::close_open(r.phase));
+    make(r1, moves::leave(r1.phase, reason))
 }
 
 // A byte is heard.
 fn hear(r: Run) -> Run
     ensures { result ≡ hearing r }
 {
-    let p = r.phase;
-    let rs = r.reports;
-    let time = r.time;
     Run {
-        phase: p,
         heard: base::count_sum(r.heard, 1),
-        named: r.named,
-        time: time,
-        reports: rs,
+        ..r
     }
 }
 
@@ -96,33 +84,35 @@ fn hear(r: Run) -> Run
 fn hear_byte(r: Run, e: Event, mark: Micros) -> Run
     ensures { result ≡ byte_acts r e mark }
 {
-    let p = r.phase;
-    let side = e.side;
-    let r1 = make(hear(r), moves::after_byte(p, side, e.value, mark, e.start));
-    let p1 = r1.phase;
-    make(r1, moves::after_stop(p1))
+    let r1 = make(
+        hear(r),
+        moves::after_byte(r.phase, e.side, e.value, mark, e.start),
+    );
+    make(r1, moves::after_stop(r1.phase))
 }
 
 // An event acts.
 fn act(r: Run, e: Event, mark: Micros) -> Run
     ensures { result ≡ acts_by e.kind r e mark }
 {
-    let kind = e.kind;
-    match kind {
+    match e.kind {
         Kind::Address => {
             let r1 = shut_all(r, base::reason::RESTARTED);
-            let p1 = r1.phase;
-            make(r1, moves::starting_slow(p1.idle, e.value, mark, e.start))
+            make(
+                r1,
+                moves::starting_slow(r1.phase.idle, e.value, mark, e.start),
+            )
         }
         Kind::WakeUp => {
             let r2 = shut_all(r, base::reason::RESTARTED);
-            let p2 = r2.phase;
-            make(r2, moves::starting_fast(p2.idle, mark, e.start, e.end))
+            make(
+                r2,
+                moves::starting_fast(r2.phase.idle, mark, e.start, e.end),
+            )
         }
         Kind::Byte => hear_byte(r, e, mark),
-        Kind::Tick => r,
         Kind::Drop => shut_all(r, base::reason::DROPPED),
-        Kind::Other => r,
+        Kind::Tick | Kind::Other => r,
     }
 }
 
@@ -131,18 +121,17 @@ fn act(r: Run, e: Event, mark: Micros) -> Run
 fn enter(l: Link, e: Event) -> Run
     ensures { result ≡ begun l e }
 {
-    let p = l.phase;
-    let time = e.end;
     Run {
-        phase: p,
+        phase: l.phase,
         heard: l.heard,
         named: l.named,
-        time: time,
+        time: e.end,
         reports: no_reports(),
     }
 }
 
 // Time passes, a byte may end what is held, and the event acts.
+#[tactic(auto, using(crate::proofs::Ways::acts_handled))]
 fn handle(l: Link, e: Event) -> Run
     ensures { result ≡ handled l e }
 {
@@ -154,11 +143,11 @@ fn handle(l: Link, e: Event) -> Run
 fn mark_after(l: Link, e: Event) -> Micros
     ensures { result ≡ mark_after l e }
 {
-    let kind = e.kind;
-    if events::is_marking(kind) {
-        return e.end;
+    if events::is_marking(e.kind) {
+        e.end
+    } else {
+        l.mark
     }
-    l.mark
 }
 
 // The link after an event.
@@ -166,35 +155,36 @@ fn mark_after(l: Link, e: Event) -> Micros
 fn finish(l: Link, e: Event, r: Run) -> Link
     ensures { result ≡ link_after l e r }
 {
-    let p = r.phase;
-    let end = e.end;
     Link {
-        clock: end,
+        clock: e.end,
         mark: mark_after(l, e),
         taken: base::count_sum(l.taken, 1),
         heard: r.heard,
         named: r.named,
-        phase: p,
+        phase: r.phase,
     }
 }
 
 // The number of an event.
-#[tactic(auto, unfolding(crate::specs::Stepping::number_of))]
+#[tactic(auto, unfolding(crate::specs::Stepping::number_of, base::specs::Refusals::no_of))]
 pub(crate) fn number(l: Link, c: Counts, e: Event) -> u8
     ensures { result ≡ number_of l c e }
 {
-    events::refused(l.clock, reports::is_full(l.taken, c), e)
+    match events::refused(l.clock, reports::is_full(l.taken, c), e) {
+        Ok(()) => base::TAKEN,
+        Err(why) => why.into(),
+    }
 }
 
 // A refused event.
 #[tactic(auto, unfolding(crate::specs::Stepping::refused_by))]
-fn refuse(l: Link, no: u8) -> Answer
-    ensures { result ≡ refused_by l no }
+fn refuse(link: Link, no: u8) -> Answer
+    ensures { result ≡ refused_by link no }
 {
     Answer {
-        link: l,
+        link,
         reports: no_reports(),
-        no: no,
+        no,
     }
 }
 
@@ -204,37 +194,33 @@ fn take(l: Link, e: Event) -> Answer
     ensures { result ≡ taken_by l e }
 {
     let r = handle(l, e);
-    let rs = r.reports;
     Answer {
         link: finish(l, e, r),
-        reports: rs,
+        reports: r.reports,
         no: base::TAKEN,
     }
 }
 
 // What an event is answered with.
-#[tactic(auto, unfolding(crate::specs::Stepping::answer_of))]
+#[tactic(auto, unfolding(crate::specs::Stepping::answer_of), using(crate::proofs::Ways::on_step, crate::proofs::Ways::first_step))]
 pub fn respond(l: Link, c: Counts, e: Event) -> Answer
     ensures { result ≡ answer_of l c e }
 {
     let no = number(l, c, e);
-    if no != base::TAKEN {
-        return refuse(l, no);
-    }
     let p = l.phase;
-    let m = p.message;
-    let side = e.side;
-    if goes_on(l, e) {
-        return go_on(l, e, phases::hold(p, talk::grow(m, e.value)));
-    }
-    if is_first_byte(l, e) {
-        return go_on(
+    if no != base::TAKEN {
+        refuse(l, no)
+    } else if goes_on(l, e) {
+        go_on(l, e, phases::hold(p, talk::grow(p.message, e.value)))
+    } else if is_first_byte(l, e) {
+        go_on(
             l,
             e,
-            moves::first_frame_byte(p, side, e.value, units::gap(l.mark, e.start)),
-        );
+            moves::first_frame_byte(p, e.side, e.value, units::gap(l.mark, e.start)),
+        )
+    } else {
+        take(l, e)
     }
-    take(l, e)
 }
 
 // The counts after an event, by its answer.
@@ -242,12 +228,11 @@ pub fn respond(l: Link, c: Counts, e: Event) -> Answer
 pub fn counted(c: Counts, a: Answer, e: Event) -> Counts
     ensures { result ≡ counts_after c a e }
 {
-    let rs = a.reports;
-    let kind = e.kind;
     if a.no == base::TAKEN {
-        return reports::count_event(c, events::is_byte(kind), rs);
+        reports::count_event(c, events::is_byte(e.kind), a.reports)
+    } else {
+        c
     }
-    c
 }
 
 // A step: the answer to an event, and the counts brought up to date.
@@ -255,10 +240,9 @@ pub fn counted(c: Counts, a: Answer, e: Event) -> Counts
 pub fn step(l: Link, c: Counts, e: Event) -> Stepped
     ensures { result ≡ step_of l c e }
 {
-    let a = respond(l, c, e);
-    let d = counted(c, a, e);
+    let answer = respond(l, c, e);
     Stepped {
-        answer: a,
-        counts: d,
+        answer,
+        counts: counted(c, answer, e),
     }
 }

@@ -2,22 +2,22 @@
 use Prim.Native.Nat.{ℕ, ◌+◌, ◌-◌, ◌≤◌, ◌<◌}
 use mathlib.Core.Path.{◌≡◌, refl, sym, ◌∙◌, ap}
 use mathlib.Core.List.{List, [], ◌++◌, append_assoc, append-nil}
-use lib.ListN.{length, take, drop, length-drop}
-use lib.Seq.{take_all, take-add, take-append_seam}
+use lib.ListN.{length, take, drop, length-drop, drop_of_length-le}
+use lib.Seq.{take_all, drop-drop, take-append_seam}
 use native.Mathlib.Omega.{arith}
 use Rattle.words.specs.Writing.{put, Writes}
 use Rattle.words.proofs.Written.{writes_puts}
 use Rattle.std.specs.Io.KnownBytes.{Appends, Consumes, IsAtEnd, prepend_known}
-use Rattle.std.proofs.Common.{Option, None, Some, Ok, IfSome, subst}
+use Rattle.std.proofs.Common.{Option, None, Some, IfSome, subst}
 use Rattle.std.proofs.KnownBytes.{Appends-nil, Appends-trans}
-use Rattle.list_events.specs.Sending.{HasRead, Listed, behind_head, said_by}
-use Rattle.list_events.specs.declared.Sent.{Sent}
+use Rattle.list_events.specs.Sending.{HasRead, behind_head, said_by}
 use Rattle.text.specs.Text.{head_text}
 use Rattle.listing.specs.Listing.{Feed, feed, ending_of, fresh_lister, listing_of}
 use Rattle.listing.specs.Parts.{answer_most, part_of, Parted}
 use Rattle.listing.specs.declared.Lister.{Lister}
 use Rattle.listing.specs.declared.Part.{Part}
-use Rattle.listing.proofs.Cuts.{feed_said, feed_append, part_fed, reads_on, part_within}
+use Rattle.listing.proofs.Cuts.{feed_said, feed_append, reads_on, part_within}
+use Rattle.listing.proofs.Whole.{behind, call_rest}
 
 -- the lister that bytes give one by one
 abbrev pub fed_by : Lister → List ℕ → Lister
@@ -33,32 +33,6 @@ fed_said f s = ap (λ (x : Feed). x.lister) (feed_said s f.lister f.said)
 
 fed_append : (l : Lister) (a b : List ℕ) → fed_by l (a ++ b) ≡ fed_by (fed_by l a) b
 fed_append l a b = ap (λ (f : Feed). f.lister) (feed_append (record { lister = l; said = [] }) a b) ∙ fed_said (feed (record { lister = l; said = [] }) a) b
-
--- a turn of the loop: some bytes more, all of them of the part, and the lister that they give
-pub record Turn (l : Lister) (s : List ℕ) (at k : ℕ) (y : Lister) : Type 0 where
-  pub some : 0 < k
-  pub within : at + k ≤ length s
-  pub same : y ≡ fed_by l (take (at + k) s)
-
-turn_by : (l x : Lister) (s d out : List ℕ) (at : ℕ) (p : Part) (after : List ℕ) → d ≡ drop at s → at < length s → answer_most ≤ length out
-    → Parted x d out p after
-    → x ≡ fed_by l (take at s) → Turn l s at p.at p.lister
-turn_by l x s d out at p after e h k q g =
-    let n = length out in
-    let len : length d ≡ length s - at = rw e (length-drop at s) in
-    let r = q.read in
-    record {
-      some = rw r (reads_on x d n (omega arith) k);
-      within = rw r (omega (arith, part_within x d n));
-      same = q.lister
-          ∙ (ap (λ (f : Feed). f.lister) (part_fed x d n)
-          ∙ rw (r, take-add at (part_of x d n).at s, fed_append l (take at s) (take (part_of x d n).at (drop at s)), ← g, ← e) refl);
-    }
-
-pub turn : (l x : Lister) (s out : List ℕ) (at : ℕ) (p : Part) (after : List ℕ) → at < length s → answer_most ≤ length out
-    → Parted x (take (length s - at) (drop at s)) out p after → x ≡ fed_by l (take at s) → Turn l s at p.at p.lister
-turn l x s out at p after h k q g =
-    turn_by l x s (take (length s - at) (drop at s)) out at p after (take_all (length s - at) (drop at s) (omega (arith, length-drop at s))) h k q g
 
 -- ---- what goes out
 said_append : (l : Lister) (a b : List ℕ) → said_by l (a ++ b) ≡ said_by l a ++ said_by (fed_by l a) b
@@ -84,24 +58,60 @@ written_front p k out r after h small w =
 part_front : (x : Lister) (d out : List ℕ) (p : Part) (after : List ℕ) → Parted x d out p after → take p.put after ≡ (part_of x d (length out)).feed.said
 part_front x d out p after q = rw (q.written, q.memory) (put_front (part_of x d (length out)).feed.said out)
 
--- a turn of the loop: what it puts at the front of the buffer is written for the bytes that it reads
-said_turn_by : (l x : Lister) (s d out : List ℕ) (at : ℕ) (p : Part) (after : List ℕ) → d ≡ drop at s → Parted x d out p after
-    → x ≡ fed_by l (take at s) → said_by l (take (at + p.at) s) ≡ said_by l (take at s) ++ take p.put after
-said_turn_by l x s d out at p after e q g =
-    let n = length out in
-    let now : take p.put after ≡ said_by x (take p.at d) = part_front x d out p after q ∙ rw (q.read) (ap (λ (f : Feed). f.said) (part_fed x d n)) in
-    rw (now, take-add at p.at s, said_append l (take at s) (take p.at (drop at s)), ← g, ← e) refl
+-- ---- one buffer after another
+-- The part so far, up to `at`: what went out, and what the rest gives, are what all of its bytes give one by one.
+pub record Sending (l : Lister) (s : List ℕ) (to₀ to : Option (List ℕ)) (x : Lister) (at : ℕ) : Type 0 where
+  pub within : at ≤ length s
+  pub sent : List ℕ
+  pub went : Appends to₀ to sent
+  pub same : behind sent (feed (record { lister = x; said = [] }) (drop at s)) ≡ feed (record { lister = l; said = [] }) s
 
-pub said_turn : (l x : Lister) (s out : List ℕ) (at : ℕ) (p : Part) (after : List ℕ)
-    → Parted x (take (length s - at) (drop at s)) out p after → x ≡ fed_by l (take at s) → said_by l (take (at + p.at) s) ≡ said_by l (take at s) ++ take p.put after
-said_turn l x s out at p after q g =
-    said_turn_by l x s (take (length s - at) (drop at s)) out at p after (take_all (length s - at) (drop at s) (omega (arith, length-drop at s))) q g
+pub sending_first : (l : Lister) (s : List ℕ) (to : Option (List ℕ)) → Sending l s to to l 0
+sending_first l s to = record { within = omega arith; sent = []; went = Appends-nil to; same = refl }
 
--- where nothing failed, the lister is the one that all bytes of the part give
-pub all_listed : (l : Lister) (s : List ℕ) (r : Sent) (u : Unit {0}) → r.whole ≡ Ok u → Listed l s r → r.lister ≡ fed_by l s
-all_listed l s r u e k =
-    let all : r.at ≡ length s = rw e at k.all in
-    k.lister ∙ rw (all, take_all (length s) s (omega arith)) refl
+-- a call reads something, and no more than there is
+part_reads : (x : Lister) (s d out : List ℕ) (at : ℕ) (p : Part) (after : List ℕ) → d ≡ drop at s → at < length s → answer_most ≤ length out → Parted x d out p after
+    → (0 < p.at) × (at + p.at ≤ length s)
+part_reads x s d out at p after e h k q =
+    let n : length d ≡ length s - at = rw e (length-drop at s) in
+    rw q.read (reads_on x d (length out) (omega arith) k, omega (arith, part_within x d (length out)))
+
+pub reads : (x : Lister) (s out : List ℕ) (at : ℕ) (p : Part) (after : List ℕ) → at < length s → answer_most ≤ length out
+    → Parted x (take (length s - at) (drop at s)) out p after → (0 < p.at) × (at + p.at ≤ length s)
+reads x s out at p after h k q =
+    part_reads x s (take (length s - at) (drop at s)) out at p after (take_all (length s - at) (drop at s) (omega (arith, length-drop at s))) h k q
+
+-- a call, and what it leaves
+called : (x : Lister) (d out : List ℕ) (p : Part) (after : List ℕ) → Parted x d out p after
+    → behind (take p.put after) (feed (record { lister = p.lister; said = [] }) (drop p.at d)) ≡ feed (record { lister = x; said = [] }) d
+called x d out p after q = rw (part_front x d out p after q, q.lister, q.read) (call_rest (length out) x d)
+
+sending_by : (l x : Lister) (s d out : List ℕ) (at : ℕ) (p : Part) (after : List ℕ) (to₀ to to' : Option (List ℕ)) → d ≡ drop at s → at < length s
+    → answer_most ≤ length out → Sending l s to₀ to x at → Parted x d out p after → Appends to to' (take p.put after)
+    → Sending l s to₀ to' p.lister (at + p.at)
+sending_by l x s d out at p after to₀ to to' e h n k q w =
+    let rest : drop p.at d ≡ drop (at + p.at) s = rw e (drop-drop p.at at s) in
+    let c = rw rest at (called x d out p after q) in
+    record {
+      within = (part_reads x s d out at p after e h n q).1;
+      sent = k.sent ++ take p.put after;
+      went = Appends-trans to₀ to to' k.sent (take p.put after) k.went w;
+      same = rw (append_assoc k.sent (take p.put after) (feed (record { lister = p.lister; said = [] }) (drop (at + p.at) s)).said)
+          (ap (behind k.sent) (rw e at c) ∙ k.same);
+    }
+
+pub sending_on : (l x : Lister) (s out : List ℕ) (at : ℕ) (p : Part) (after : List ℕ) (to₀ to to' : Option (List ℕ)) → at < length s → answer_most ≤ length out
+    → Sending l s to₀ to x at → Parted x (take (length s - at) (drop at s)) out p after → Appends to to' (take p.put after)
+    → Sending l s to₀ to' p.lister (at + p.at)
+sending_on l x s out at p after to₀ to to' h n k q w =
+    sending_by l x s (take (length s - at) (drop at s)) out at p after to₀ to to' (take_all (length s - at) (drop at s) (omega (arith, length-drop at s))) h n k q w
+
+pub sending_end : (l x : Lister) (s : List ℕ) (at : ℕ) (to₀ to : Option (List ℕ)) → length s ≤ at → Sending l s to₀ to x at
+    → (x ≡ fed_by l s) × Appends to₀ to (said_by l s)
+unfolding feed
+sending_end l x s at to₀ to e k =
+    let all = rw (drop_of_length-le s {i = at} e) at k.same in
+    (ap (λ (f : Feed). f.lister) all, subst (Appends to₀ to) (sym (append-nil k.sent) ∙ ap (λ (f : Feed). f.said) all) k.went)
 
 -- ---- one read after another
 -- The listing so far: of all that the input had, `done` was listed, and what it gave last and what it has left are still to be.

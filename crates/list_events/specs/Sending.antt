@@ -1,15 +1,13 @@
--- What one call of `list` answers, and what goes out: where the bytes that a writer holds and those that a reader has left are known, all of them.
+-- What a call of `list` answers, and what goes out: where the bytes that a writer holds and those that a reader has left are known, all of them.
 -- Assumes nothing.
-use Rattle.std.specs.Prelude.{ℕ, ◌≡◌, ◌<◌, ◌≤◌, List, [], ◌++◌, Option, OnOk, length, take}
+use Rattle.std.specs.Prelude.{ℕ, ◌≡◌, ◌<◌, ◌≤◌, List, [], ◌++◌, Option, length}
 use Rattle.std.specs.Io.KnownBytes.{IsAtEnd}
 use Rattle.listing.specs.Listing.{feed, ending_of, fresh_lister}
 use Rattle.listing.specs.declared.Lister.{Lister}
-use Rattle.list_events.specs.declared.Sent.{Sent}
 
--- the lister is the one that the bytes up to `at` give one by one, and these are all of them unless writing failed
-pub record Listed (l : Lister) (s : List ℕ) (r : Sent) : Type 0 where
-  pub lister : r.lister ≡ (feed (record { lister = l; said = [] }) (take r.at s)).lister
-  pub all : OnOk r.whole (r.at ≡ length s)
+-- the lister is the one that all of the bytes give one by one
+abbrev pub Listed : Lister → List ℕ → Lister → Type 0
+Listed l s after = after ≡ (feed (record { lister = l; said = [] }) s).lister
 
 -- what is written for bytes, one by one
 abbrev pub said_by : Lister → List ℕ → List ℕ

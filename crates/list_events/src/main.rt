@@ -16,14 +16,6 @@ use std::process::ExitCode;
 use std::rt::Files;
 use std::{fs, io, str};
 
-// The lister after so many bytes of a part, and whether all that was written went out.
-#[derive(Clone, Copy)]
-struct Sent {
-    lister: Lister,
-    at: usize,
-    whole: Result<(), Failure>,
-}
-
 // How many bytes are read at a time, and written.
 const LARGE: usize = 65_536;
 
@@ -45,32 +37,23 @@ fn read_some<R: Read>(input: &mut R, buf: &mut [u8]) -> Result<usize, Failure>
     input.read(buf).map_err(Failure::Input)
 }
 
-// Lists a part of the input, one buffer after another.
-fn list<W: Write>(to: &mut W, l: Lister, s: &[u8], out: &mut [u8]) -> Sent
+// Lists a part of the input, one buffer after another: the lister after it, where all that is written
+// goes out.
+fn list<W: Write>(to: &mut W, l: Lister, s: &[u8], out: &mut [u8]) -> Result<Lister, Failure>
     requires { answer_most ≤ length out.old }
-    ensures listed { Listed l s.now result }
-    ensures sent { OnOk result.whole (Appends (W.contents to.old) (W.contents to.new) (said_by l s.now)) }
+    ensures listed { IfOk result (Listed l s.now) }
+    ensures sent { OnOk result (Appends (W.contents to.old) (W.contents to.new) (said_by l s.now)) }
 {
-    let mut x = l;
+    let mut lister = l;
     let mut at = 0;
+    // By a place: with a rest of the slice that each turn cuts short the proof did not close.
     while at < s.len() {
-        let p = listing::list_part(x, &s[at..], out);
-        let n = p.put;
-        x = p.lister;
-        at = at + p.at;
-        if let Err(error) = send(to, &out[..n]) {
-            return Sent {
-                lister: x,
-                at: at,
-                whole: Err(error),
-            };
-        }
+        let part = listing::list_part(lister, &s[at..], out);
+        send(to, &out[..part.put])?;
+        lister = part.lister;
+        at += part.at;
     }
-    Sent {
-        lister: x,
-        at: at,
-        whole: Ok(()),
-    }
+    Ok(lister)
 }
 
 // The input has ended. (The buffer has room for what is then written.)
@@ -103,9 +86,7 @@ fn list_all<R: Read, W: Write>(
         if n == 0 {
             return finish(to, l, out);
         }
-        let r = list(to, l, &buf[..n], out);
-        r.whole?;
-        l = r.lister;
+        l = list(to, l, &buf[..n], out)?;
         got = read_some(input, buf)?;
     }
     Err(Failure::Input(io::Error::from(io::ErrorKind::TimedOut)))
@@ -129,7 +110,8 @@ fn list_open<R: Read, W: Write>(
     list_all(input, to, first, buf, out)
 }
 
-// Whether the command line has an argument of this number.
+// Whether the command line has an argument of this number. (The other program has these lines for itself: std says nothing of a
+// command line, so a public function could promise nothing.)
 fn has_argument(rt: &impl Env, i: usize) -> bool {
     !matches!(rt.arg(i, &mut []), Err(FillError::NotPresent))
 }

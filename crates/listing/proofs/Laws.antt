@@ -6,10 +6,11 @@ use mathlib.Core.List.{List, [], ◌∷◌, ◌++◌, append-nil}
 use lib.Dec.{eqb, leb, ltb}
 use lib.ListN.{length, drop, length-append, length-drop, drop_of_length-le}
 use lib.Seq.{drop-drop, drop-cons}
-use borrow.Author.Tests.{eq-eqb, ne_eqb, le-leb, lt-leb, lt-ltb, le-ltb, leb-true, ltb-true, ltb-false}
+use borrow.Author.Tests.{eq-eqb, ne_eqb, le-leb, lt-ltb, le-ltb, leb-true, ltb-true, ltb-false}
 use native.Mathlib.Omega.{arith}
 use native.Mathlib.Nat.{zero-add}
-use Rattle.std.specs.Prelude.{if◌then◌else◌}
+use Rattle.std.specs.Prelude.{Option, Some, None, IfSome}
+use Rattle.std.proofs.lemmas.Option.{none-some}
 use Rattle.base.specs.Numbers.{taken}
 use Rattle.base.proofs.Tests.{and_split, by_test}
 use Rattle.events.specs.declared.Event.{Event}
@@ -24,7 +25,7 @@ use Rattle.link.specs.declared.Stepped.{Stepped}
 use Rattle.link.proofs.Ways.{runs_on_lem}
 use Rattle.lines.specs.Lines.{fresh_reading, read_byte, is_letter, is_empty}
 use Rattle.lines.specs.Getting.{got_of, ended, cut_off}
-use Rattle.lines.specs.Quick.{no_row, row_of, row_got}
+use Rattle.lines.specs.Quick.{row_of, row_got}
 use Rattle.lines.specs.declared.Reading.{Reading}
 use Rattle.lines.specs.declared.Got.{Got}
 use Rattle.lines.specs.declared.Row.{Row}
@@ -57,11 +58,13 @@ got_ahead : (r : Reading) (bs : List ℕ) (at : ℕ) → 0 < length bs → at < 
 got_ahead r [] at k = absurd (omega arith)
 got_ahead r (b ∷ bs) at k = let h = ahead_by r b bs at (eqb b 10) refl (got_behind (read_byte r b) bs (at + 1)) in omega arith
 
--- what a listing becomes by it
+-- what a listing becomes by it: of a line that ended by its event, else by what was read of it
+abbrev gotten_by : Feed → Reading → Option Event → Feed
+gotten_by f r (Some e) = record { lister = stepped f.lister e; said = f.said ++ said_of f.lister e }
+gotten_by f r None = record { lister = with_reading f.lister r; said = f.said }
+
 abbrev gotten : Feed → Got → Feed
-gotten f g =
-    if g.whole then record { lister = stepped f.lister g.event; said = f.said ++ said_of f.lister g.event } else
-    record { lister = with_reading f.lister g.reading; said = f.said }
+gotten f g = gotten_by f g.reading g.line
 
 line_by : (room b : ℕ) (bs : List ℕ) (f : Feed) (at : ℕ) (t : Bool) → eqb b 10 ≡ t → length f.said ≤ room
     → (f2 : Feed) → f2 ≡ record { lister = with_reading f.lister (read_byte f.lister.reading b); said = f.said }
@@ -100,29 +103,29 @@ line_behind l s at g e = rw e (got_behind l.reading (drop at s) at)
 line_ahead : (l : Lister) (s : List ℕ) (at : ℕ) (g : Got) → g ≡ got_of l.reading (drop at s) at → at < length s → at < g.at
 line_ahead l s at g e h = rw e (got_ahead l.reading (drop at s) at (rw (length-drop at s) (omega arith)))
 
-whole_on : (room : ℕ) (l : Lister) (s o : List ℕ) (at : ℕ) (g : Got) → g ≡ got_of l.reading (drop at s) at → g.whole ≡ true → length o ≤ room
+whole_on : (room : ℕ) (l : Lister) (s o : List ℕ) (at : ℕ) (g : Got) (v : Event) → g ≡ got_of l.reading (drop at s) at → g.line ≡ Some v → length o ≤ room
     → takes room (record { lister = l; said = o }) (drop at s) at
-    ≡ takes room (record { lister = stepped l g.event; said = o ++ said_of l g.event }) (drop g.at s) g.at
-whole_on room l s o at g e w h = let t = takes_got room (record { lister = l; said = o }) s at g e h in rw w at t
+    ≡ takes room (record { lister = stepped l v; said = o ++ said_of l v }) (drop g.at s) g.at
+whole_on room l s o at g v e w h = let t = takes_got room (record { lister = l; said = o }) s at g e h in rw w at t
 
-cut_on : (room : ℕ) (l : Lister) (s o : List ℕ) (at : ℕ) (g : Got) → g ≡ got_of l.reading (drop at s) at → g.whole ≡ false → length o ≤ room
+cut_on : (room : ℕ) (l : Lister) (s o : List ℕ) (at : ℕ) (g : Got) → g ≡ got_of l.reading (drop at s) at → g.line ≡ None → length o ≤ room
     → takes room (record { lister = l; said = o }) (drop at s) at ≡ takes room (record { lister = with_reading l g.reading; said = o }) (drop g.at s) g.at
 cut_on room l s o at g e w h = let t = takes_got room (record { lister = l; said = o }) s at g e h in rw w at t
 
-pub turned_act : (l : Lister) (s : List ℕ) (at n : ℕ) (out : List ℕ) (g : Got) (r : Part) (after : List ℕ) → g ≡ got_of l.reading (drop at s) at → g.whole ≡ true
-    → Acted l g.event g.at n out r after → Turned l s at n out r after
-turned_act l s at n out g r after e w a = record {
-  said = said_of l g.event;
+pub turned_act : (l : Lister) (s : List ℕ) (at n : ℕ) (out : List ℕ) (g : Got) (v : Event) (r : Part) (after : List ℕ) → g ≡ got_of l.reading (drop at s) at
+    → g.line ≡ Some v → Acted l v g.at n out r after → Turned l s at n out r after
+turned_act l s at n out g v r after e w a = record {
+  said = said_of l v;
   behind = rw a.place (line_behind l s at g e);
   ahead = λ h. rw a.place (line_ahead l s at g e h);
-  same = λ room o h. rw (a.lister, a.place) (whole_on room l s o at g e w h);
+  same = λ room o h. rw (a.lister, a.place) (whole_on room l s o at g v e w h);
   wrote = a.wrote;
 }
 
 pub wider : (at : ℕ) (p : List ℕ) (m k : ℕ) (out : List ℕ) (r : ℕ) (after : List ℕ) → length p ≤ k → Puts at p m out r after → Puts at p k out r after
 wider at p m k out r after h u = record { place = u.place; small = h; memory = u.memory; kept = u.kept }
 
-pub turned_cut : (l : Lister) (s : List ℕ) (at n : ℕ) (out : List ℕ) (g : Got) → g ≡ got_of l.reading (drop at s) at → g.whole ≡ false
+pub turned_cut : (l : Lister) (s : List ℕ) (at n : ℕ) (out : List ℕ) (g : Got) → g ≡ got_of l.reading (drop at s) at → g.line ≡ None
     → Turned l s at n out (record { lister = with_reading l g.reading; at = g.at; put = n }) out
 turned_cut l s at n out g e w = record {
   said = [];
@@ -143,8 +146,8 @@ unfolding said_of answer_text reports_text listed
 ran_silent k c rd e h = rw (runs_on_lem k c e h)
 
 -- the line of such a byte is what its bytes give, and ends after its place
-run_line : (rd : Reading) (s : List ℕ) (at : ℕ) (q : Row) → is_empty rd ≡ true → q ≡ row_of s at → (q.to ≡ 0 → ⊥) → row_got q ≡ got_of rd (drop at s) at
-run_line rd s at q e f t = rw f (sym (row_line s rd at e (λ z. t (ap (λ (k : Row). k.to) f ∙ z))))
+run_line : (rd : Reading) (s : List ℕ) (at : ℕ) (q : Row) → is_empty rd ≡ true → row_of s at ≡ Some q → row_got q ≡ got_of rd (drop at s) at
+run_line rd s at q e f = sym (row_line s rd at e q f)
 
 row_place : (q : Row) → (row_got q).at ≡ q.to
 unfolding row_got
@@ -154,18 +157,28 @@ fresh_empty : is_empty fresh_reading ≡ true
 unfolding is_empty is_letter
 fresh_empty = refl
 
-pub run_ahead : (s : List ℕ) (at : ℕ) (q : Row) → q ≡ row_of s at → (q.to ≡ 0 → ⊥) → at < length s → at < q.to
-run_ahead s at q f t h =
-    let k : at < (row_got q).at = rw (run_line fresh_reading s at q fresh_empty f t) (got_ahead fresh_reading (drop at s) at (rw (length-drop at s) (omega arith))) in
+-- it lies in the part
+row_within_by : (s : List ℕ) (at : ℕ) (q : Row) (b : Bool) → leb (at + 36) (length s) ≡ b → row_of s at ≡ Some q → at < length s
+unfolding row_of
+row_within_by s at q true e f = omega (arith, leb-true (at + 36) (length s) e)
+row_within_by s at q false e f = absurd (none-some q (rw e at f))
+
+pub row_within : (s : List ℕ) (at : ℕ) (q : Row) → row_of s at ≡ Some q → at < length s
+row_within s at q f = row_within_by s at q (leb (at + 36) (length s)) refl f
+
+pub run_ahead : (s : List ℕ) (at : ℕ) (q : Row) → row_of s at ≡ Some q → at < q.to
+run_ahead s at q f =
+    let h = row_within s at q f in
+    let k : at < (row_got q).at = rw (run_line fresh_reading s at q fresh_empty f) (got_ahead fresh_reading (drop at s) at (rw (length-drop at s) (omega arith))) in
     rw (row_place q) at k
 
-run_takes : (room : ℕ) (k : Link) (c : Counts) (rd : Reading) (s o : List ℕ) (at : ℕ) (q : Row) → is_empty rd ≡ true → q ≡ row_of s at → (q.to ≡ 0 → ⊥)
+run_takes : (room : ℕ) (k : Link) (c : Counts) (rd : Reading) (s o : List ℕ) (at : ℕ) (q : Row) → is_empty rd ≡ true → row_of s at ≡ Some q
     → runs_on k c q.event ≡ true → length o ≤ room
     → takes room (record { lister = lister_of k c rd; said = o }) (drop at s) at
     ≡ takes room (record { lister = lister_of (ran_on k q.event) (counted_byte c true) fresh_reading; said = o }) (drop q.to s) q.to
 unfolding row_got
-run_takes room k c rd s o at q e f t r h =
-    let w = whole_on room (lister_of k c rd) s o at (row_got q) (run_line rd s at q e f t) refl h in
+run_takes room k c rd s o at q e f r h =
+    let w = whole_on room (lister_of k c rd) s o at (row_got q) q.event (run_line rd s at q e f) refl h in
     rw (ran_step k c rd q.event r, ran_silent k c rd q.event r, append-nil o) at w
 
 -- the reading after none is the one in front, and after some a fresh one
@@ -181,9 +194,6 @@ after_empty : (rd : Reading) (from at : ℕ) → is_empty rd ≡ true → is_emp
 unfolding reading_after
 after_empty rd from at e = by_test (λ (x : Reading). is_empty x ≡ true) (eqb from at) (λ t. e) (λ t. fresh_empty)
 
-no_line : (s : List ℕ) (at : ℕ) (q : Row) → q.to ≡ 0 → (q.to ≡ 0 → ⊥) → q ≡ row_of s at
-no_line s at q z t = absurd (t z)
-
 -- the lines so far
 pub record Gliding (k : Link) (c : Counts) (s : List ℕ) (from : ℕ) (x : Link) (y : Counts) (at : ℕ) : Type 0 where
   pub ahead : from ≤ at
@@ -194,43 +204,36 @@ pub record Gliding (k : Link) (c : Counts) (s : List ℕ) (from : ℕ) (x : Link
 pub gliding_start : (k : Link) (c : Counts) (s : List ℕ) (from : ℕ) → Gliding k c s from k c from
 gliding_start k c s from = record { ahead = omega arith; same = λ rd e room o h. rw (after_none rd from) refl }
 
-pub gliding_on : (k : Link) (c : Counts) (s : List ℕ) (from : ℕ) (x : Link) (y : Counts) (at : ℕ) (q : Row) → q ≡ row_of s at → (q.to ≡ 0 → ⊥) → runs_on x y q.event ≡ true
-    → at < length s → Gliding k c s from x y at → Gliding k c s from (ran_on x q.event) (counted_byte y true) q.to
-gliding_on k c s from x y at q f t r h g =
-    let p = run_ahead s at q f t h in
+pub gliding_on : (k : Link) (c : Counts) (s : List ℕ) (from : ℕ) (x : Link) (y : Counts) (at : ℕ) (q : Row) → row_of s at ≡ Some q → runs_on x y q.event ≡ true
+    → Gliding k c s from x y at → Gliding k c s from (ran_on x q.event) (counted_byte y true) q.to
+gliding_on k c s from x y at q f r g =
+    let p = run_ahead s at q f in
     record {
       ahead = omega (arith, g.ahead);
       same = λ rd e room o n. rw (after_some rd from q.to (omega (arith, g.ahead)))
-          (g.same rd e room o n ∙ run_takes room x y (reading_after rd from at) s o at q (after_empty rd from at e) f t r n);
+          (g.same rd e room o n ∙ run_takes room x y (reading_after rd from at) s o at q (after_empty rd from at e) f r n);
     }
-
-pub glided : (k : Link) (c : Counts) (s : List ℕ) (from : ℕ) (x : Link) (y : Counts) (at : ℕ) (q : Row) → ((q.to ≡ 0 → ⊥) → q ≡ row_of s at) → Gliding k c s from x y at
-    → Glided k c s from (record { link = x; counts = y; at = at; row = q })
-glided k c s from x y at q f g = record { ahead = g.ahead; same = g.same; row = f }
-
-no_row_place : (q : Row) → q ≡ no_row → q.to ≡ 0
-no_row_place q e = ap (λ (k : Row). k.to) e
-
-pub glided_none : (k : Link) (c : Counts) (s : List ℕ) (from : ℕ) (x : Link) (y : Counts) (at : ℕ) (q : Row) → q ≡ no_row → Gliding k c s from x y at
-    → Glided k c s from (record { link = x; counts = y; at = at; row = q })
-glided_none k c s from x y at q e g = glided k c s from x y at q (λ t. no_line s at q (no_row_place q e) t) g
 
 pub stretched_glide : (l : Lister) (s : List ℕ) (from : ℕ) (r : Stretch) → is_empty l.reading ≡ true → Glided l.link l.counts s from r → Stretched l s from r
 stretched_glide l s from r e g = record {
   ahead = g.ahead;
   same = g.same l.reading e;
-  row = record { row = g.row; empty = λ t. after_empty l.reading from r.at e };
+  row = record { row = g.row; empty = if_some r.row (after_empty l.reading from r.at e) };
 }
+  where
+    if_some : (found : Option Row) {P : Type 0} → P → IfSome found (λ q. P)
+    if_some (Some q) p = p
+    if_some None p = tt
 
-pub stretched_none : (l : Lister) (s : List ℕ) (from : ℕ) (q : Row) → q ≡ no_row → Stretched l s from (record { link = l.link; counts = l.counts; at = from; row = q })
-stretched_none l s from q e = record {
+pub stretched_none : (l : Lister) (s : List ℕ) (from : ℕ) → Stretched l s from (record { link = l.link; counts = l.counts; at = from; row = None })
+stretched_none l s from = record {
   ahead = omega arith;
   same = λ room o h. rw (after_none l.reading from) refl;
-  row = record { row = λ t. absurd (t (no_row_place q e)); empty = λ t. absurd (t (no_row_place q e)) };
+  row = record { row = tt; empty = tt };
 }
 
-pub picked : (r : Reading) (q : Row) (s : List ℕ) (at : ℕ) → RowAt r q s at → (q.to ≡ 0 → ⊥) → row_got q ≡ got_of r (drop at s) at
-picked r q s at p t = run_line r s at q (p.empty t) (p.row t) t
+pub picked : (r : Reading) (q : Row) (s : List ℕ) (at : ℕ) → RowAt r (Some q) s at → row_got q ≡ got_of r (drop at s) at
+picked r q s at p = run_line r s at q p.empty p.row
 
 pub turned_join : (l : Lister) (s : List ℕ) (at n : ℕ) (out : List ℕ) (y : Stretch) (rd : Reading) (r : Part) (after : List ℕ) → Stretched l s at y
     → rd ≡ reading_after l.reading at y.at → Turned (lister_of y.link y.counts rd) s y.at n out r after → Turned l s at n out r after
@@ -351,9 +354,6 @@ ended_line l out r after h f p =
       lister = rw f (rw e at p.lister);
       wrote = rw f (record { place = rw e at p.written ∙ sym (zero-add _); small = small; memory = rw e at p.memory; kept = part_kept l (10 ∷ []) out r after p });
     }
-
-pub end_none : (p out : List ℕ) → length out < ending_most → Writes p ending_most 0 out 0 out
-end_none p out h = record { place = rw (lt-leb ending_most (length out) h) refl; memory = rw (lt-leb ending_most (length out) h) refl }
 
 pub end_written : (l : Lister) (out : List ℕ) (p : Part) (o1 : List ℕ) (held r : ℕ) (after : List ℕ) → ending_most ≤ length out → Ended l out p o1
     → held ≡ held_of p.lister.link

@@ -30,7 +30,7 @@ abbrev pub drained : ℕ → Lister → List ℕ → Feed
 drained n l s = drained_in (length s) n l s
 
 -- a call, and the bytes it left
-call_rest : (n : ℕ) (l : Lister) (s : List ℕ)
+pub call_rest : (n : ℕ) (l : Lister) (s : List ℕ)
     → behind (part_of l s n).feed.said (feed (record { lister = (part_of l s n).feed.lister; said = [] }) (drop (part_of l s n).at s))
     ≡ feed (record { lister = l; said = [] }) s
 call_rest n l s =

@@ -1,5 +1,5 @@
 -- What the functions below `list_part` promise. Assumes nothing.
-use Rattle.std.specs.Prelude.{ℕ, ◌≤◌, ◌<◌, ◌≡◌, true, List, [], ◌++◌, eqb, length, drop, if◌then◌else◌}
+use Rattle.std.specs.Prelude.{ℕ, ◌≤◌, ◌<◌, ◌≡◌, true, List, [], ◌++◌, Option, Some, IfSome, eqb, length, drop, if◌then◌else◌}
 use Rattle.events.specs.declared.Event.{Event}
 use Rattle.reports.specs.declared.Counts.{Counts}
 use Rattle.link.specs.declared.Link.{Link}
@@ -24,10 +24,10 @@ pub record Acted (l : Lister) (e : Event) (at put : ℕ) (out : List ℕ) (r : P
 unfoldable pub reading_after : Reading → ℕ → ℕ → Reading
 reading_after r from at = if eqb from at then r else fresh_reading
 
--- q, if it is a line, is the one that stands at `at`, where a line begins
-pub record RowAt (r : Reading) (q : Row) (s : List ℕ) (at : ℕ) : Type 0 where
-  pub row : (q.to ≡ 0 → ⊥) → q ≡ row_of s at
-  pub empty : (q.to ≡ 0 → ⊥) → is_empty r ≡ true
+-- a line that was read at once, if there is one, is the one that stands at `at`, where a line begins
+pub record RowAt (r : Reading) (found : Option Row) (s : List ℕ) (at : ℕ) : Type 0 where
+  pub row : IfSome found (λ q. row_of s at ≡ Some q)
+  pub empty : IfSome found (λ q. is_empty r ≡ true)
 
 abbrev pub lister_of : Link → Counts → Reading → Lister
 lister_of k c r = record { link = k; counts = c; reading = r }
@@ -38,7 +38,7 @@ pub record Glided (k : Link) (c : Counts) (s : List ℕ) (from : ℕ) (r : Stret
   pub same : (rd : Reading) → is_empty rd ≡ true → (room : ℕ) (o : List ℕ) → length o ≤ room
       → takes room (record { lister = lister_of k c rd; said = o }) (drop from s) from
       ≡ takes room (record { lister = lister_of r.link r.counts (reading_after rd from r.at); said = o }) (drop r.at s) r.at
-  pub row : (r.row.to ≡ 0 → ⊥) → r.row ≡ row_of s r.at
+  pub row : IfSome r.row (λ q. row_of s r.at ≡ Some q)
 
 -- .. and for a lister
 pub record Stretched (l : Lister) (s : List ℕ) (from : ℕ) (r : Stretch) : Type 0 where

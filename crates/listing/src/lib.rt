@@ -37,7 +37,7 @@ struct Stretch {
     link: Link,
     counts: Counts,
     at: usize,
-    row: Row,
+    row: Option<Row>,
 }
 
 // No line of input has more written for it than an answer's lines, ..
@@ -62,33 +62,28 @@ fn put_answer(out: &mut [u8], at: usize, a: Answer) -> usize
     requires { at + answer_most ≤ length out.old }
     ensures { Puts at (answer_text a) answer_most out.old result out.new }
 {
-    let rs = a.reports;
     if a.no == base::TAKEN {
-        return text::put_reports(out, at, rs);
+        text::put_reports(out, at, a.reports)
+    } else {
+        text::put_refusal(out, at, a.no)
     }
-    text::put_refusal(out, at, a.no)
 }
 
-// A line has ended in front of `at`: its event makes a step, and the answer is written.
-fn act(l: Lister, e: Event, at: usize, out: &mut [u8], put: usize) -> Part
-    requires { put + answer_most ≤ length out.old }
-    ensures { Acted l e at put out.old result out.new }
+// A line has ended: its event makes a step, and the answer is written.
+fn act(part: Part, e: Event, out: &mut [u8]) -> Part
+    requires { part.put + answer_most ≤ length out.old }
+    ensures { Acted part.lister e part.at part.put out.old result out.new }
 {
-    let k = l.link;
-    let c = l.counts;
-    let t = link::step(k, c, e);
-    let a = t.answer;
-    let d = t.counts;
-    let to = a.link;
-    let n = put_answer(out, put, a);
+    let t = link::step(part.lister.link, part.lister.counts, e);
+    let put = put_answer(out, part.put, t.answer);
     Part {
         lister: Lister {
-            link: to,
-            counts: d,
+            link: t.answer.link,
+            counts: t.counts,
             reading: lines::begin(),
         },
-        at: at,
-        put: n,
+        put,
+        ..part
     }
 }
 
@@ -97,55 +92,39 @@ fn act(l: Lister, e: Event, at: usize, out: &mut [u8], put: usize) -> Part
 fn glide(k: Link, c: Counts, s: &[u8], from: usize) -> Stretch
     ensures { Glided k c s.now from result }
 {
-    let mut x = k;
-    let mut y = c;
-    let mut at = from;
-    while at < s.len() {
-        let q = lines::byte_line(s, at);
-        let e = q.event;
-        if q.to == 0 {
+    let mut y = Stretch {
+        link: k,
+        counts: c,
+        at: from,
+        row: None,
+    };
+    while let Some(row) = lines::byte_line(s, y.at) {
+        if !link::runs_on(y.link, y.counts, row.event) {
             return Stretch {
-                link: x,
-                counts: y,
-                at: at,
-                row: q,
+                row: Some(row),
+                ..y
             };
         }
-        if !link::runs_on(x, y, e) {
-            return Stretch {
-                link: x,
-                counts: y,
-                at: at,
-                row: q,
-            };
-        }
-        x = link::run_on(x, e);
-        y = reports::count_byte(y, true);
-        at = q.to;
+        y.link = link::run_on(y.link, row.event);
+        y.counts = reports::count_byte(y.counts, true);
+        y.at = row.to;
     }
-    Stretch {
-        link: x,
-        counts: y,
-        at: at,
-        row: lines::no_row(),
-    }
+    y
 }
 
 // The same of a lister, which may be within a line.
 fn stretch_from(l: Lister, s: &[u8], from: usize) -> Stretch
     ensures { Stretched l s.now from result }
 {
-    let k = l.link;
-    let c = l.counts;
-    let reading = l.reading;
-    if lines::is_empty(reading) {
-        return glide(k, c, s, from);
-    }
-    Stretch {
-        link: k,
-        counts: c,
-        at: from,
-        row: lines::no_row(),
+    if lines::is_empty(l.reading) {
+        glide(l.link, l.counts, s, from)
+    } else {
+        Stretch {
+            link: l.link,
+            counts: l.counts,
+            at: from,
+            row: None,
+        }
     }
 }
 
@@ -154,95 +133,79 @@ fn stretch_from(l: Lister, s: &[u8], from: usize) -> Stretch
 fn reading_after(r: Reading, from: usize, at: usize) -> Reading
     ensures { result ≡ reading_after r from at }
 {
-    if from == at {
-        return r;
-    }
-    lines::begin()
+    if from == at { r } else { lines::begin() }
 }
 
 // The next line, which may have been read at once.
-fn pick(r: Reading, q: Row, s: &[u8], at: usize) -> Got
-    requires { RowAt r q s.now at }
+#[tactic(auto, using(crate::proofs::Laws::picked))]
+fn pick(r: Reading, row: Option<Row>, s: &[u8], at: usize) -> Got
+    requires { RowAt r row s.now at }
     ensures { result ≡ got_of r (drop at s.now) at }
 {
-    if q.to == 0 {
-        return lines::get_line(r, s, at);
+    match row {
+        Some(row) => lines::got_row(row),
+        None => lines::get_line(r, s, at),
     }
-    lines::got_row(q)
 }
 
 // What was got of a line is taken.
-fn take_line(l: Lister, g: Got, s: &[u8], at: usize, out: &mut [u8], put: usize) -> Part
-    requires g_value { g ≡ got_of l.reading (drop at s.now) at }
-    requires answer_most_in_bounds { put + answer_most ≤ length out.old }
-    ensures { Turned l s.now at put out.old result out.new }
+#[tactic(auto, using(crate::proofs::Laws::turned_act, crate::proofs::Laws::turned_cut))]
+fn take_line(part: Part, g: Got, s: &[u8], out: &mut [u8]) -> Part
+    requires g_value { g ≡ got_of part.lister.reading (drop part.at s.now) part.at }
+    requires answer_most_in_bounds { part.put + answer_most ≤ length out.old }
+    ensures { Turned part.lister s.now part.at part.put out.old result out.new }
 {
-    let e = g.event;
-    let k = l.link;
-    let c = l.counts;
-    let rest = g.reading;
-    let whole = g.whole;
-    if whole {
-        return act(l, e, g.at, out, put);
-    }
-    Part {
-        lister: Lister {
-            link: k,
-            counts: c,
-            reading: rest,
+    match g.line {
+        Some(event) => act(Part { at: g.at, ..part }, event, out),
+        None => Part {
+            lister: Lister {
+                reading: g.reading,
+                ..part.lister
+            },
+            at: g.at,
+            ..part
         },
-        at: g.at,
-        put: put,
     }
 }
 
 // Lines that write nothing, and one that may.
-fn turn(l: Lister, s: &[u8], from: usize, out: &mut [u8], put: usize) -> Part
-    requires { put + answer_most ≤ length out.old }
-    ensures { Turned l s.now from put out.old result out.new }
+#[tactic(auto, using(crate::proofs::Laws::row_of_pick, crate::proofs::Laws::turned_join))]
+fn turn(part: Part, s: &[u8], out: &mut [u8]) -> Part
+    requires { part.put + answer_most ≤ length out.old }
+    ensures { Turned part.lister s.now part.at part.put out.old result out.new }
 {
-    let y = stretch_from(l, s, from);
-    let at = y.at;
-    let q = y.row;
-    let k = y.link;
-    let c = y.counts;
-    let old = l.reading;
-    let reading = reading_after(old, from, at);
-    let x = Lister {
-        link: k,
-        counts: c,
-        reading: reading,
+    let y = stretch_from(part.lister, s, part.at);
+    let reading = reading_after(part.lister.reading, part.at, y.at);
+    let g = pick(reading, y.row, s, y.at);
+    let at_line = Part {
+        lister: Lister {
+            link: y.link,
+            counts: y.counts,
+            reading,
+        },
+        at: y.at,
+        ..part
     };
-    let g = pick(reading, q, s, at);
-    take_line(x, g, s, at, out, put)
+    take_line(at_line, g, s, out)
 }
 
 // Lists a part of the input, as far as the buffer has room for what may be written for one more line.
+#[tactic(auto, using(crate::proofs::Laws::part_none, crate::proofs::Laws::going_start))]
 pub fn list_part(l: Lister, s: &[u8], out: &mut [u8]) -> Part
     ensures { Parted l s.now out.old result out.new }
 {
-    let mut x = l;
-    let mut at = 0;
-    let mut put = 0;
-    if out.len() < ANSWER_MOST {
-        return Part {
-            lister: x,
-            at: at,
-            put: put,
-        };
+    let mut part = Part {
+        lister: l,
+        at: 0,
+        put: 0,
+    };
+    let Some(room) = out.len().checked_sub(ANSWER_MOST) else {
+        return part;
+    };
+    while (part.at < s.len()) & (part.put <= room) {
+        part = turn(part, s, out);
     }
-    let room = out.len() - ANSWER_MOST;
-    while (at < s.len()) & (put <= room) {
-        let t = turn(x, s, at, out, put);
-        x = t.lister;
-        at = t.at;
-        put = t.put;
-    }
-    Part {
-        lister: x,
-        at: at,
-        put: put,
-    }
+    part
 }
 
 // The bytes that no report has named.
@@ -250,7 +213,7 @@ pub fn list_part(l: Lister, s: &[u8], out: &mut [u8]) -> Part
 fn held(l: Link) -> u64
     ensures { result ≡ held_of l }
 {
-    base::less(l.heard, l.named)
+    l.heard.saturating_sub(l.named)
 }
 
 // The last line, if its line feed is missing: as if the line feed came.
@@ -258,15 +221,15 @@ fn end_line(l: Lister, out: &mut [u8]) -> Part
     requires { answer_most ≤ length out.old }
     ensures { Ended l out.old result out.new }
 {
-    let reading = l.reading;
-    if lines::is_empty(reading) {
-        return Part {
+    if lines::is_empty(l.reading) {
+        Part {
             lister: l,
             at: 0,
             put: 0,
-        };
+        }
+    } else {
+        list_part(l, b"\n", out)
     }
-    list_part(l, b"\n", out)
 }
 
 // The input has ended: a last line without its line feed, and the end line. Where the buffer has
@@ -278,8 +241,5 @@ pub fn finish(l: Lister, out: &mut [u8]) -> usize
         return 0;
     }
     let p = end_line(l, out);
-    let x = p.lister;
-    let k = x.link;
-    let c = x.counts;
-    text::put_end(out, p.put, c, held(k))
+    text::put_end(out, p.put, p.lister.counts, held(p.lister.link))
 }

@@ -11,7 +11,8 @@ pub use passing::{
 };
 use phases::Phase;
 
-// A rule's outcome: the phase after it, and a report, none if its number is 0.
+// A rule's outcome: the phase after it, and a report, none if its number is 0. (Number and reason stay two u8:
+// `reports::make` takes any move.)
 #[derive(Clone, Copy)]
 pub struct Move {
     pub phase: Phase,

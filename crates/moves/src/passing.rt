@@ -12,7 +12,7 @@ use phases::{
 use units::Micros;
 
 // 20 ms, after which a message or damage ends.
-const BYTE_GAP: u64 = 20_000;
+const BYTE_GAP: Micros = Micros(20_000);
 
 // No report.
 pub(crate) fn stay(p: Phase) -> Move
@@ -31,8 +31,8 @@ pub(crate) fn making(number: u8, reason: u8, p: Phase) -> Move
 {
     Move {
         phase: p,
-        number: number,
-        reason: reason,
+        number,
+        reason,
     }
 }
 
@@ -41,7 +41,7 @@ pub(crate) fn making(number: u8, reason: u8, p: Phase) -> Move
 pub fn is_silent(gap: Micros) -> bool
     ensures { result ≡ is_silent gap }
 {
-    units::earlier(Micros(BYTE_GAP), gap)
+    BYTE_GAP < gap
 }
 
 // The reason of a message held, or of damage.
@@ -49,12 +49,7 @@ pub fn is_silent(gap: Micros) -> bool
 fn loss_reason(p: Phase, reason: u8) -> u8
     ensures { result ≡ loss_reason p reason }
 {
-    let state = p.state;
-    let m = p.message;
-    if is_held(state) {
-        return reason;
-    }
-    m.why
+    base::either(is_held(p.state), reason, p.message.why)
 }
 
 // Whether what is open is a message that is right as it stands: a car's.
@@ -62,9 +57,7 @@ fn loss_reason(p: Phase, reason: u8) -> u8
 fn is_right(p: Phase) -> bool
     ensures { result ≡ is_right p }
 {
-    let state = p.state;
-    let m = p.message;
-    is_held(state) & (talk::end_reason(m) == base::reason::NONE)
+    is_held(p.state) & (talk::end_reason(p.message) == base::reason::NONE)
 }
 
 // What is open has ended: a frame, or damage.
@@ -72,15 +65,15 @@ fn is_right(p: Phase) -> bool
 pub fn end_open(p: Phase) -> Move
     ensures { result ≡ ended p }
 {
-    let m = p.message;
     if is_right(p) {
-        return making(base::report::FRAME, base::reason::NONE, end_frame(p));
+        making(base::report::FRAME, base::reason::NONE, end_frame(p))
+    } else {
+        making(
+            base::report::DAMAGE,
+            loss_reason(p, talk::end_reason(p.message)),
+            settle(p),
+        )
     }
-    making(
-        base::report::DAMAGE,
-        loss_reason(p, talk::end_reason(m)),
-        settle(p),
-    )
 }
 
 // 20 ms pass with something open.
@@ -88,12 +81,11 @@ pub fn end_open(p: Phase) -> Move
 pub fn after_silence(p: Phase, gap: Micros) -> Move
     ensures { result ≡ after_silence p gap }
 {
-    let state = p.state;
-    let over = is_open(state) & is_silent(gap);
-    if over {
-        return end_open(p);
+    if is_open(p.state) & is_silent(gap) {
+        end_open(p)
+    } else {
+        stay(p)
     }
-    stay(p)
 }
 
 // Whether a byte of this side ends the message held: under 94 94 the unit's byte ends the tester's
@@ -102,12 +94,10 @@ pub fn after_silence(p: Phase, gap: Micros) -> Move
 pub fn is_cut_in(p: Phase, side: Side) -> bool
     ensures { result ≡ is_cut_in p side }
 {
-    let state = p.state;
-    let m = p.message;
-    let whose = m.side;
-    let s = p.start;
-    let pair = s.pair;
-    is_held(state) & events::is_tester(whose) & events::is_unit(side) & keys::is_quick(pair)
+    is_held(p.state)
+        & events::is_tester(p.message.side)
+        & events::is_unit(side)
+        & p.start.pair.is_quick()
 }
 
 // P2 max passes while a first reply is awaited.
@@ -115,14 +105,11 @@ pub fn is_cut_in(p: Phase, side: Side) -> bool
 pub fn after_p2(p: Phase, gap: Micros) -> Move
     ensures { result ≡ after_p2 p gap }
 {
-    let state = p.state;
-    let reply = p.reply;
-    let w = p.windows;
-    let over = is_quiet(state) & talk::is_first(reply) & timing::passed(w.p2max, gap);
-    if over {
-        return making(base::report::NO_REPLY, base::reason::NONE, settle(p));
+    if is_quiet(p.state) & talk::is_first(p.reply) & timing::passed(p.windows.p2max, gap) {
+        making(base::report::NO_REPLY, base::reason::NONE, settle(p))
+    } else {
+        stay(p)
     }
-    stay(p)
 }
 
 // P3 max passes while no first reply is awaited.
@@ -130,19 +117,15 @@ pub fn after_p2(p: Phase, gap: Micros) -> Move
 pub fn after_p3(p: Phase, gap: Micros) -> Move
     ensures { result ≡ after_p3 p gap }
 {
-    let state = p.state;
-    let reply = p.reply;
-    let w = p.windows;
-    let first = talk::is_first(reply);
-    let over = is_quiet(state) & !first & timing::passed(w.p3max, gap);
-    if over {
-        return making(
+    if is_quiet(p.state) & !talk::is_first(p.reply) & timing::passed(p.windows.p3max, gap) {
+        making(
             base::report::DOWN,
             base::reason::IDLE_OVER,
             go_down(Micros(0)),
-        );
+        )
+    } else {
+        stay(p)
     }
-    stay(p)
 }
 
 // The time since the origin of an initialization's next byte, the mark or the fall.
@@ -150,9 +133,7 @@ pub fn after_p3(p: Phase, gap: Micros) -> Move
 pub fn since_origin(p: Phase, mark: Micros, time: Micros) -> Micros
     ensures { result ≡ since_origin p mark time }
 {
-    let s = p.start;
-    let stage = s.stage;
-    units::gap(starts::origin(stage, p.fall, mark), time)
+    units::gap(starts::origin(p.start.stage, p.fall, mark), time)
 }
 
 // The present window of an initialization passes.
@@ -160,13 +141,11 @@ pub fn since_origin(p: Phase, mark: Micros, time: Micros) -> Micros
 pub fn after_window(p: Phase, mark: Micros, time: Micros) -> Move
     ensures { result ≡ after_window p mark time }
 {
-    let state = p.state;
-    let s = p.start;
-    let over = is_starting(state) & starts::is_past(s, since_origin(p, mark, time));
-    if over {
-        return making(base::report::FAILED, base::reason::WINDOW_OVER, go_off());
+    if is_starting(p.state) & starts::is_past(p.start, since_origin(p, mark, time)) {
+        making(base::report::FAILED, base::reason::WINDOW_OVER, go_off())
+    } else {
+        stay(p)
     }
-    stay(p)
 }
 
 // An address, a wake-up or a drop closes what is open.
@@ -174,18 +153,17 @@ pub fn after_window(p: Phase, mark: Micros, time: Micros) -> Move
 pub fn close_open(p: Phase) -> Move
     ensures { result ≡ closing p }
 {
-    let state = p.state;
-    if is_open(state) {
-        return making(
+    if is_open(p.state) {
+        making(
             base::report::DAMAGE,
             loss_reason(p, base::reason::CLOSED),
             settle(p),
-        );
+        )
+    } else if is_starting(p.state) {
+        making(base::report::FAILED, base::reason::CLOSED, go_off())
+    } else {
+        stay(p)
     }
-    if is_starting(state) {
-        return making(base::report::FAILED, base::reason::CLOSED, go_off());
-    }
-    stay(p)
 }
 
 // A connected link with nothing open goes down; a drop of one that is down only sets its idle time
@@ -194,13 +172,11 @@ pub fn close_open(p: Phase) -> Move
 pub fn leave(p: Phase, reason: u8) -> Move
     ensures { result ≡ leaving p reason }
 {
-    let state = p.state;
-    if is_quiet(state) {
-        return making(base::report::DOWN, reason, go_off());
+    if is_quiet(p.state) {
+        making(base::report::DOWN, reason, go_off())
+    } else if is_down(p.state) & (reason == base::reason::DROPPED) {
+        stay(go_off())
+    } else {
+        stay(p)
     }
-    let again = is_down(state) & (reason == base::reason::DROPPED);
-    if again {
-        return stay(go_off());
-    }
-    stay(p)
 }

@@ -14,7 +14,7 @@ use units::Micros;
 
 // Down; in an initialization; connected with nothing open, with a message held, with damage being
 // skipped.
-#[derive(Clone, Copy)]
+#[derive(Clone, Copy, Debug, PartialEq, Eq)]
 pub enum State {
     Down,
     Starting,
@@ -24,7 +24,7 @@ pub enum State {
 }
 
 // The state, beside what each state uses. Numbers of eight bytes come first and single bytes are
-// eight: there is no padding.
+// eight: there is no padding. (Not an enum with data: the promises carry along what a state does not use.)
 #[derive(Clone, Copy)]
 pub struct Phase {
     pub windows: Windows,

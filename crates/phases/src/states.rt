@@ -15,13 +15,7 @@ use units::Micros;
 pub fn is_down(state: State) -> bool
     ensures { result ≡ is_down state }
 {
-    match state {
-        State::Down => true,
-        State::Starting => false,
-        State::Quiet => false,
-        State::Held => false,
-        State::Damage => false,
-    }
+    state == State::Down
 }
 
 // Whether a link is in an initialization.
@@ -29,13 +23,7 @@ pub fn is_down(state: State) -> bool
 pub fn is_starting(state: State) -> bool
     ensures { result ≡ is_starting state }
 {
-    match state {
-        State::Down => false,
-        State::Starting => true,
-        State::Quiet => false,
-        State::Held => false,
-        State::Damage => false,
-    }
+    state == State::Starting
 }
 
 // Whether a link is connected with nothing open.
@@ -43,13 +31,7 @@ pub fn is_starting(state: State) -> bool
 pub fn is_quiet(state: State) -> bool
     ensures { result ≡ is_quiet state }
 {
-    match state {
-        State::Down => false,
-        State::Starting => false,
-        State::Quiet => true,
-        State::Held => false,
-        State::Damage => false,
-    }
+    state == State::Quiet
 }
 
 // Whether a link holds a message.
@@ -57,13 +39,7 @@ pub fn is_quiet(state: State) -> bool
 pub fn is_held(state: State) -> bool
     ensures { result ≡ is_held state }
 {
-    match state {
-        State::Down => false,
-        State::Starting => false,
-        State::Quiet => false,
-        State::Held => true,
-        State::Damage => false,
-    }
+    state == State::Held
 }
 
 // Whether a link holds a message or skips damage.
@@ -71,13 +47,7 @@ pub fn is_held(state: State) -> bool
 pub fn is_open(state: State) -> bool
     ensures { result ≡ is_open state }
 {
-    match state {
-        State::Down => false,
-        State::Starting => false,
-        State::Quiet => false,
-        State::Held => true,
-        State::Damage => true,
-    }
+    matches!(state, State::Held | State::Damage)
 }
 
 // No message.
@@ -117,13 +87,13 @@ fn unconnected_at(state: State, idle: Micros, fall: Micros, start: Start) -> Pha
     Phase {
         windows: no_windows(),
         message: no_message(),
-        idle: idle,
-        fall: fall,
+        idle,
+        fall,
         asked: 0,
-        state: state,
+        state,
         reply: Reply::Never,
         request: Request::Ordinary,
-        start: start,
+        start,
     }
 }
 
@@ -157,14 +127,7 @@ pub fn connect(start: Start) -> Phase
 {
     Phase {
         windows: timing::set_of(start.pair),
-        message: no_message(),
-        idle: Micros(0),
-        fall: Micros(0),
-        asked: 0,
-        state: State::Quiet,
-        reply: Reply::Never,
-        request: Request::Ordinary,
-        start: start,
+        ..unconnected_at(State::Quiet, Micros(0), Micros(0), start)
     }
 }
 
@@ -173,21 +136,11 @@ pub fn connect(start: Start) -> Phase
 fn talk_on(p: Phase, state: State, reply: Reply, message: Message) -> Phase
     ensures { result ≡ talking p state reply message }
 {
-    let w = p.windows;
-    let request = p.request;
-    let start = p.start;
-    let idle = p.idle;
-    let fall = p.fall;
     Phase {
-        windows: w,
-        message: message,
-        idle: idle,
-        fall: fall,
-        asked: p.asked,
-        state: state,
-        reply: reply,
-        request: request,
-        start: start,
+        state,
+        reply,
+        message,
+        ..p
     }
 }
 
@@ -196,8 +149,7 @@ fn talk_on(p: Phase, state: State, reply: Reply, message: Message) -> Phase
 pub fn hold(p: Phase, m: Message) -> Phase
     ensures { result ≡ holding p m }
 {
-    let reply = p.reply;
-    talk_on(p, State::Held, reply, m)
+    talk_on(p, State::Held, p.reply, m)
 }
 
 // With damage being skipped.
@@ -205,10 +157,7 @@ pub fn hold(p: Phase, m: Message) -> Phase
 pub fn damage(p: Phase, why: u8) -> Phase
     ensures { result ≡ damaged p why }
 {
-    let reply = p.reply;
-    let mut m = p.message;
-    m.why = why;
-    talk_on(p, State::Damage, reply, m)
+    talk_on(p, State::Damage, p.reply, Message { why, ..p.message })
 }
 
 // With nothing open, and no reply expected.
@@ -216,8 +165,7 @@ pub fn damage(p: Phase, why: u8) -> Phase
 pub fn settle(p: Phase) -> Phase
     ensures { result ≡ settled p }
 {
-    let m = p.message;
-    talk_on(p, State::Quiet, Reply::Never, m)
+    talk_on(p, State::Quiet, Reply::Never, p.message)
 }
 
 // With other windows, and another latest request.
@@ -225,22 +173,11 @@ pub fn settle(p: Phase) -> Phase
 fn with_timing(p: Phase, windows: Windows, seven: u64, request: Request) -> Phase
     ensures { result ≡ timed p windows seven request }
 {
-    let m = p.message;
-    let state = p.state;
-    let reply = p.reply;
-    let start = p.start;
-    let idle = p.idle;
-    let fall = p.fall;
     Phase {
-        windows: windows,
-        message: m,
-        idle: idle,
-        fall: fall,
+        windows,
         asked: seven,
-        state: state,
-        reply: reply,
-        request: request,
-        start: start,
+        request,
+        ..p
     }
 }
 
@@ -250,9 +187,8 @@ fn ask(p: Phase) -> Phase
     ensures { result ≡ asked p }
 {
     let m = p.message;
-    let w = p.windows;
     let q = talk_on(p, State::Quiet, Reply::First, m);
-    with_timing(q, w, m.seven, talk::request_of(m))
+    with_timing(q, p.windows, m.seven, talk::request_of(m))
 }
 
 // After a unit frame.
@@ -261,11 +197,9 @@ fn answer(p: Phase) -> Phase
     ensures { result ≡ answered p }
 {
     let m = p.message;
-    let request = p.request;
-    let start = p.start;
-    let w = talk::windows_after(request, m, start.pair, p.asked, p.windows);
+    let w = talk::windows_after(p.request, m, p.start.pair, p.asked, p.windows);
     let q = talk_on(p, State::Quiet, Reply::Further, m);
-    with_timing(q, w, p.asked, talk::request_after(request, m))
+    with_timing(q, w, p.asked, talk::request_after(p.request, m))
 }
 
 // After the frame that was held.
@@ -273,10 +207,9 @@ fn answer(p: Phase) -> Phase
 pub fn end_frame(p: Phase) -> Phase
     ensures { result ≡ framed p }
 {
-    let m = p.message;
-    let side = m.side;
-    if events::is_tester(side) {
-        return ask(p);
+    if events::is_tester(p.message.side) {
+        ask(p)
+    } else {
+        answer(p)
     }
-    answer(p)
 }

@@ -1,7 +1,9 @@
 -- Reports: what one says, and how the move that it comes from is made (document 01, "Events and what the link does"). One definition makes a report, one
 -- appends it.
 -- Assumes nothing.
-use Rattle.std.specs.Prelude.{ℕ, ◌-◌, Bool, List, [], ◌∷◌, eqb, leb, take, if◌then◌else◌}
+use Rattle.std.specs.Prelude.{ℕ, ◌+◌, ◌-◌, Bool, List, [], ◌∷◌, eqb, leb, ltb, take, slice_set, if◌then◌else◌}
+use Rattle.std.proofs.Common.{refl, ◌∙◌}
+use Rattle.std.proofs.Math.ListN.{length-set}
 use Rattle.units.specs.Units.{micros}
 use Rattle.phases.specs.declared.Phase.{Phase}
 use Rattle.moves.specs.declared.Move.{Move}
@@ -17,7 +19,7 @@ abbrev pub places : ℕ
 places = 4
 
 abbrev pub no_reports : Reports
-no_reports = record { a = no_report; b = no_report; c = no_report; d = no_report; n = 0 }
+no_reports = record { places = no_report ∷ no_report ∷ no_report ∷ no_report ∷ []; n = 0; full = refl }
 
 -- Reports 1 to 5 name the bytes held, 6, 7 and 8 none. (0 is no report, and is not asked.)
 unfoldable pub names_bytes : ℕ → Bool
@@ -37,14 +39,13 @@ report_of r number reason = record {
 -- after the others, in the next place; where all places are taken, nothing
 unfoldable pub appended : Reports → Report → Reports
 appended rs r =
-    if eqb rs.n 0 then record { a = r; b = rs.b; c = rs.c; d = rs.d; n = 1 } else
-    if eqb rs.n 1 then record { a = rs.a; b = r; c = rs.c; d = rs.d; n = 2 } else
-    if eqb rs.n 2 then record { a = rs.a; b = rs.b; c = r; d = rs.d; n = 3 } else
-    if eqb rs.n 3 then record { a = rs.a; b = rs.b; c = rs.c; d = r; n = 4 } else rs
+    if ltb rs.n places
+    then record { places = slice_set rs.places rs.n r; n = rs.n + 1; full = length-set rs.places rs.n r ∙ rs.full }
+    else rs
 
 -- the places in order, ..
 abbrev pub in_places : Reports → List Report
-in_places rs = rs.a ∷ rs.b ∷ rs.c ∷ rs.d ∷ []
+in_places rs = rs.places
 
 -- .. and the reports, which are those in the first n
 unfoldable pub listed : Reports → List Report

@@ -13,15 +13,7 @@ const MOST: u64 = 4_000_000_000;
 pub fn no_counts() -> Counts
     ensures { result ≡ zero_counts }
 {
-    Counts {
-        heard: 0,
-        framed: 0,
-        damaged: 0,
-        started: 0,
-        outside: 0,
-        frames: 0,
-        damages: 0,
-    }
+    Counts::default()
 }
 
 // Whether no more events are taken. A number that has the bits of all of them is at least each.
@@ -29,6 +21,7 @@ pub fn no_counts() -> Counts
 pub fn is_full(events: u64, c: Counts) -> bool
     ensures { result ≡ is_full events c }
 {
+    // One comparison for the eight below, since an event seldom comes near the most.
     let all = events
         | c.heard
         | c.framed
@@ -37,17 +30,15 @@ pub fn is_full(events: u64, c: Counts) -> bool
         | c.outside
         | c.frames
         | c.damages;
-    if all < MOST {
-        return false;
-    }
-    (MOST <= events)
-        | (MOST < c.heard)
-        | (MOST < c.framed)
-        | (MOST < c.damaged)
-        | (MOST < c.started)
-        | (MOST < c.outside)
-        | (MOST < c.frames)
-        | (MOST < c.damages)
+    MOST <= all
+        && (MOST <= events
+            || MOST < c.heard
+            || MOST < c.framed
+            || MOST < c.damaged
+            || MOST < c.started
+            || MOST < c.outside
+            || MOST < c.frames
+            || MOST < c.damages)
 }
 
 // A report is counted.
@@ -57,16 +48,16 @@ fn count_one(c: Counts, x: Report) -> Counts
 {
     let frame = x.number == base::report::FRAME;
     let damage = x.number == base::report::DAMAGE;
-    let start = (x.number == base::report::CONNECTED) | (x.number == base::report::FAILED);
+    let start = matches!(x.number, base::report::CONNECTED | base::report::FAILED);
     let outside = x.number == base::report::OUTSIDE;
     Counts {
-        heard: c.heard,
-        framed: base::count_sum(c.framed, base::either64(frame, x.bytes, 0)),
-        damaged: base::count_sum(c.damaged, base::either64(damage, x.bytes, 0)),
-        started: base::count_sum(c.started, base::either64(start, x.bytes, 0)),
-        outside: base::count_sum(c.outside, base::either64(outside, x.bytes, 0)),
-        frames: base::count_sum(c.frames, base::either64(frame, 1, 0)),
-        damages: base::count_sum(c.damages, base::either64(damage, 1, 0)),
+        framed: base::count_sum(c.framed, base::either(frame, x.bytes, 0)),
+        damaged: base::count_sum(c.damaged, base::either(damage, x.bytes, 0)),
+        started: base::count_sum(c.started, base::either(start, x.bytes, 0)),
+        outside: base::count_sum(c.outside, base::either(outside, x.bytes, 0)),
+        frames: base::count_sum(c.frames, frame as u64),
+        damages: base::count_sum(c.damages, damage as u64),
+        ..c
     }
 }
 
@@ -75,23 +66,14 @@ fn count_one(c: Counts, x: Report) -> Counts
 fn count_all(c: Counts, rs: Reports) -> Counts
     ensures { result ≡ counted_all c (listed rs) }
 {
-    let w = rs.a;
-    let x = rs.b;
-    let y = rs.c;
-    let z = rs.d;
-    if rs.n == 0 {
-        return c;
+    let mut counts = c;
+    // Over all places and not over `as_slice`, with which an event took 229 instructions in place of 188.
+    for (i, x) in rs.places.iter().enumerate() {
+        if i < rs.n as usize {
+            counts = count_one(counts, *x);
+        }
     }
-    if rs.n == 1 {
-        return count_one(c, w);
-    }
-    if rs.n == 2 {
-        return count_one(count_one(c, w), x);
-    }
-    if rs.n == 3 {
-        return count_one(count_one(count_one(c, w), x), y);
-    }
-    count_one(count_one(count_one(count_one(c, w), x), y), z)
+    counts
 }
 
 // A byte is heard, or none.
@@ -100,13 +82,8 @@ pub fn count_byte(c: Counts, hears: bool) -> Counts
     ensures { result ≡ counted_byte c hears }
 {
     Counts {
-        heard: base::count_sum(c.heard, base::either64(hears, 1, 0)),
-        framed: c.framed,
-        damaged: c.damaged,
-        started: c.started,
-        outside: c.outside,
-        frames: c.frames,
-        damages: c.damages,
+        heard: base::count_sum(c.heard, hears as u64),
+        ..c
     }
 }
 

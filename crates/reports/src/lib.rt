@@ -1,6 +1,8 @@
 // Reports and counts: made, appended and counted in one place each.
 #![tactic(auto)]
 
+ghost use Rattle.std.specs.Prelude.{◌≡◌, length};
+
 mod counting;
 mod telling;
 
@@ -10,7 +12,7 @@ pub use telling::{make, no_reports};
 use units::Micros;
 
 // A report: the bytes it names by the first one's index and their number, the end time of its event,
-// its number and its reason.
+// its number and its reason. It holds any numbers, since the listing's functions take any report.
 #[derive(Clone, Copy)]
 pub struct Report {
     pub first: u64,
@@ -23,18 +25,17 @@ pub struct Report {
 // The places for the reports of an event.
 pub const PLACES: usize = 4;
 
-// The reports of an event: those in the first n places.
+// The reports of an event: those in the first n places, and in all where n is more. The ghost field
+// says to the definitions how long an array of PLACES is.
 #[derive(Clone, Copy)]
 pub struct Reports {
-    pub a: Report,
-    pub b: Report,
-    pub c: Report,
-    pub d: Report,
+    pub places: [Report; PLACES],
     pub n: u8,
+    ghost full: { length places ≡ 4 },
 }
 
 // The seven counts: bytes heard, bytes in reports 1, 2, 3 with 4, and 5, reports 1, reports 2.
-#[derive(Clone, Copy)]
+#[derive(Clone, Copy, Default)]
 pub struct Counts {
     pub heard: u64,
     pub framed: u64,

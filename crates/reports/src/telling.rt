@@ -1,8 +1,8 @@
 // Reports: made in one place, appended in one place.
 ghost use Rattle.std.specs.Prelude.{◌≡◌};
-ghost use Rattle.reports.specs.Reporting.{no_report, no_reports, names_bytes, report_of, appended, told, with_phase, moved};
+ghost use Rattle.reports.specs.Reporting.{no_report, no_reports, names_bytes, report_of, listed, appended, told, moved};
 
-use crate::{Report, Reports, Run};
+use crate::{PLACES, Report, Reports, Run};
 use moves::Move;
 use phases::Phase;
 use units::Micros;
@@ -25,10 +25,7 @@ pub fn no_reports() -> Reports
     ensures { result ≡ no_reports }
 {
     Reports {
-        a: no_report(),
-        b: no_report(),
-        c: no_report(),
-        d: no_report(),
+        places: [no_report(); PLACES],
         n: 0,
     }
 }
@@ -47,13 +44,12 @@ fn make_report(r: Run, number: u8, reason: u8) -> Report
     ensures { result ≡ report_of r number reason }
 {
     let names = names_bytes(number);
-    let time = r.time;
     Report {
-        first: base::either64(names, r.named, r.heard),
-        bytes: base::either64(names, base::less(r.heard, r.named), 0),
-        time: time,
-        number: number,
-        reason: reason,
+        first: base::either(names, r.named, r.heard),
+        bytes: base::either(names, r.heard.saturating_sub(r.named), 0),
+        time: r.time,
+        number,
+        reason,
     }
 }
 
@@ -62,28 +58,24 @@ fn make_report(r: Run, number: u8, reason: u8) -> Report
 fn append(rs: Reports, r: Report) -> Reports
     ensures { result ≡ appended rs r }
 {
+    let at = rs.n as usize;
+    if PLACES <= at {
+        return rs;
+    }
     let mut to = rs;
-    if rs.n == 0 {
-        to.n = 1;
-        to.a = r;
-        return to;
+    to.places[at] = r;
+    to.n += 1;
+    to
+}
+
+impl Reports {
+    // The reports: those in the first n places, and in all where n is more.
+    #[tactic(auto, unfolding(crate::specs::Reporting::listed))]
+    pub fn as_slice(&self) -> &[Report]
+        ensures { result.now ≡ listed self.now }
+    {
+        &self.places[..PLACES.min(self.n as usize)]
     }
-    if rs.n == 1 {
-        to.n = 2;
-        to.b = r;
-        return to;
-    }
-    if rs.n == 2 {
-        to.n = 3;
-        to.c = r;
-        return to;
-    }
-    if rs.n == 3 {
-        to.n = 4;
-        to.d = r;
-        return to;
-    }
-    rs
 }
 
 // A move with its report.
@@ -91,30 +83,11 @@ fn append(rs: Reports, r: Report) -> Reports
 fn tell(r: Run, m: Move) -> Run
     ensures { result ≡ told r m }
 {
-    let p = m.phase;
-    let rs = r.reports;
-    let time = r.time;
     Run {
-        phase: p,
-        heard: r.heard,
-        named: base::either64(names_bytes(m.number), r.heard, r.named),
-        time: time,
-        reports: append(rs, make_report(r, m.number, m.reason)),
-    }
-}
-
-// A step at another phase.
-fn with_phase(r: Run, p: Phase) -> Run
-    ensures { result ≡ with_phase r p }
-{
-    let rs = r.reports;
-    let time = r.time;
-    Run {
-        phase: p,
-        heard: r.heard,
-        named: r.named,
-        time: time,
-        reports: rs,
+        phase: m.phase,
+        named: base::either(names_bytes(m.number), r.heard, r.named),
+        reports: append(r.reports, make_report(r, m.number, m.reason)),
+        ..r
     }
 }
 
@@ -123,9 +96,12 @@ fn with_phase(r: Run, p: Phase) -> Run
 pub fn make(r: Run, m: Move) -> Run
     ensures { result ≡ moved r m }
 {
-    let p = m.phase;
     if m.number == 0 {
-        return with_phase(r, p);
+        Run {
+            phase: m.phase,
+            ..r
+        }
+    } else {
+        tell(r, m)
     }
-    tell(r, m)
 }

@@ -12,7 +12,7 @@ use keys::Pair;
 use units::Micros;
 
 // The byte that is due next.
-#[derive(Clone, Copy)]
+#[derive(Clone, Copy, Debug, PartialEq, Eq)]
 pub enum Stage {
     // the slow start: 55, KB1, KB2, the tester's answer, the unit's
     Sync,
@@ -67,7 +67,7 @@ fn due_from(side: Side, earliest: u64, latest: u64) -> Due
     Due {
         earliest: Micros(earliest),
         latest: Micros(latest),
-        side: side,
+        side,
         opening: false,
         last: false,
     }
@@ -78,11 +78,8 @@ fn first_due(side: Side, earliest: u64, latest: u64) -> Due
     ensures { result ≡ first_due side earliest latest }
 {
     Due {
-        earliest: Micros(earliest),
-        latest: Micros(latest),
-        side: side,
         opening: true,
-        last: false,
+        ..due_from(side, earliest, latest)
     }
 }
 
@@ -91,11 +88,8 @@ fn last_due(side: Side, earliest: u64, latest: u64) -> Due
     ensures { result ≡ last_due side earliest latest }
 {
     Due {
-        earliest: Micros(earliest),
-        latest: Micros(latest),
-        side: side,
-        opening: false,
         last: true,
+        ..due_from(side, earliest, latest)
     }
 }
 
@@ -111,19 +105,18 @@ fn due_at(stage: Stage) -> Due
         Stage::KeyBack => due_from(Side::Tester, 25_000, 50_000),
         Stage::AddressBack => last_due(Side::Unit, 25_000, 50_000),
         Stage::AskFormat => first_due(Side::Tester, 49_000, 51_000),
-        Stage::AskTarget => due_from(Side::Tester, 0, 20_000),
-        Stage::AskSource => due_from(Side::Tester, 0, 20_000),
-        Stage::AskService => due_from(Side::Tester, 0, 20_000),
-        Stage::AskSum => due_from(Side::Tester, 0, 20_000),
+        Stage::AskTarget | Stage::AskSource | Stage::AskService | Stage::AskSum => {
+            due_from(Side::Tester, 0, 20_000)
+        }
         Stage::Format => due_from(Side::Unit, 25_000, 50_000),
-        Stage::Target => due_from(Side::Unit, 0, 20_000),
-        Stage::Source => due_from(Side::Unit, 0, 20_000),
-        Stage::LongTarget => due_from(Side::Unit, 0, 20_000),
-        Stage::LongSource => due_from(Side::Unit, 0, 20_000),
-        Stage::Length => due_from(Side::Unit, 0, 20_000),
-        Stage::Service => due_from(Side::Unit, 0, 20_000),
-        Stage::KeyOne => due_from(Side::Unit, 0, 20_000),
-        Stage::KeyTwo => due_from(Side::Unit, 0, 20_000),
+        Stage::Target
+        | Stage::Source
+        | Stage::LongTarget
+        | Stage::LongSource
+        | Stage::Length
+        | Stage::Service
+        | Stage::KeyOne
+        | Stage::KeyTwo => due_from(Side::Unit, 0, 20_000),
         Stage::Sum => last_due(Side::Unit, 0, 20_000),
     }
 }
@@ -133,11 +126,7 @@ fn due_at(stage: Stage) -> Due
 pub fn origin(stage: Stage, fall: Micros, mark: Micros) -> Micros
     ensures { result ≡ origin_of stage fall mark }
 {
-    let d = due_at(stage);
-    if d.opening {
-        return fall;
-    }
-    mark
+    if due_at(stage).opening { fall } else { mark }
 }
 
 // 255 minus a byte.
@@ -153,7 +142,7 @@ pub fn inverse(x: u8) -> u8
 fn is_reply_format(v: u8) -> bool
     ensures { result ≡ is_reply_format v }
 {
-    (v == 0x03) | (v == 0x00) | (v == 0x83) | (v == 0x80)
+    matches!(v, 0x03 | 0x00 | 0x83 | 0x80)
 }
 
 // Whether a byte's value fits.
@@ -161,32 +150,27 @@ fn is_reply_format(v: u8) -> bool
 fn is_fitting(s: Start, v: u8) -> bool
     ensures { result ≡ fits s v }
 {
-    let stage = s.stage;
-    let pair = Pair {
-        kb1: s.pair.kb1,
-        kb2: v,
-    };
-    match stage {
+    match s.stage {
         Stage::Sync => v == 0x55,
-        Stage::FirstKey => true,
-        Stage::SecondKey => keys::is_slow_pair(s.address, pair),
+        Stage::SecondKey => Pair { kb2: v, ..s.pair }.is_slow_from(s.address),
         Stage::KeyBack => v == inverse(s.pair.kb2),
         Stage::AddressBack => v == inverse(s.address),
-        Stage::AskFormat => (v == 0x81) | (v == 0xC1),
-        Stage::AskTarget => true,
-        Stage::AskSource => true,
+        Stage::AskFormat => matches!(v, 0x81 | 0xC1),
         Stage::AskService => v == 0x81,
         Stage::AskSum => v == s.sum,
         Stage::Format => is_reply_format(v),
-        Stage::Target => true,
-        Stage::Source => true,
-        Stage::LongTarget => true,
-        Stage::LongSource => true,
         Stage::Length => v == 0x03,
         Stage::Service => v == 0xC1,
-        Stage::KeyOne => true,
-        Stage::KeyTwo => true,
-        Stage::Sum => (v == s.sum) & keys::good_pair(s.pair.kb1, s.pair.kb2),
+        Stage::Sum => v == s.sum && s.pair.is_good(),
+        Stage::FirstKey
+        | Stage::AskTarget
+        | Stage::AskSource
+        | Stage::Target
+        | Stage::Source
+        | Stage::LongTarget
+        | Stage::LongSource
+        | Stage::KeyOne
+        | Stage::KeyTwo => true,
     }
 }
 
@@ -195,10 +179,7 @@ fn is_fitting(s: Start, v: u8) -> bool
 fn is_from(s: Start, side: Side) -> bool
     ensures { result ≡ is_from s side }
 {
-    let stage = s.stage;
-    let d = due_at(stage);
-    let from = d.side;
-    events::same_side(side, from)
+    events::same_side(side, due_at(s.stage).side)
 }
 
 // Whether a byte that comes so long after its origin is early.
@@ -206,27 +187,24 @@ fn is_from(s: Start, side: Side) -> bool
 fn is_early(s: Start, gap: Micros) -> bool
     ensures { result ≡ is_early s gap }
 {
-    let stage = s.stage;
-    let d = due_at(stage);
-    units::earlier(gap, d.earliest)
+    gap < due_at(s.stage).earliest
 }
 
-// Judges a byte that comes so long after its origin: the reason it fails for, or 0.
+// Judges a byte that comes so long after its origin: the reason it fails for, or 0. The reason stays a
+// u8: it goes into a report, and those who are given reports take any.
 #[tactic(auto, unfolding(crate::specs::Starts::judged))]
 pub fn judge(s: Start, side: Side, v: u8, gap: Micros) -> u8
     ensures { result ≡ judged s side v gap }
 {
-    let from = is_from(s, side);
-    if !from {
-        return base::reason::WRONG_SIDE;
+    if !is_from(s, side) {
+        base::reason::WRONG_SIDE
+    } else if is_early(s, gap) {
+        base::reason::TOO_EARLY
+    } else if is_fitting(s, v) {
+        base::reason::NONE
+    } else {
+        base::reason::MISFIT
     }
-    if is_early(s, gap) {
-        return base::reason::TOO_EARLY;
-    }
-    if is_fitting(s, v) {
-        return base::reason::NONE;
-    }
-    base::reason::MISFIT
 }
 
 // Whether the end of the present window has passed, so long after its origin.
@@ -234,9 +212,7 @@ pub fn judge(s: Start, side: Side, v: u8, gap: Micros) -> u8
 pub fn is_past(s: Start, gap: Micros) -> bool
     ensures { result ≡ is_over s gap }
 {
-    let stage = s.stage;
-    let d = due_at(stage);
-    units::earlier(d.latest, gap)
+    due_at(s.stage).latest < gap
 }
 
 // The stage after the reply's format byte.
@@ -244,31 +220,22 @@ pub fn is_past(s: Start, gap: Micros) -> bool
 fn after_format(v: u8) -> Stage
     ensures { result ≡ after_format v }
 {
-    if v == 0x83 {
-        return Stage::Target;
+    match v {
+        0x83 => Stage::Target,
+        0x80 => Stage::LongTarget,
+        0x00 => Stage::Length,
+        _ => Stage::Service,
     }
-    if v == 0x80 {
-        return Stage::LongTarget;
-    }
-    if v == 0x00 {
-        return Stage::Length;
-    }
-    Stage::Service
 }
 
 // A start with one byte more, at the next stage.
 fn pass_on(s: Start, v: u8, stage: Stage) -> Start
     ensures { result ≡ passed_on s v stage }
 {
-    let pair = Pair {
-        kb1: s.pair.kb1,
-        kb2: s.pair.kb2,
-    };
     Start {
-        stage: stage,
-        address: s.address,
+        stage,
         sum: base::byte_sum(s.sum, v),
-        pair: pair,
+        ..s
     }
 }
 
@@ -277,13 +244,8 @@ fn keep_one(s: Start, v: u8, stage: Stage) -> Start
     ensures { result ≡ kept_one s v stage }
 {
     Start {
-        stage: stage,
-        address: s.address,
-        sum: base::byte_sum(s.sum, v),
-        pair: Pair {
-            kb1: v,
-            kb2: s.pair.kb2,
-        },
+        pair: Pair { kb1: v, ..s.pair },
+        ..pass_on(s, v, stage)
     }
 }
 
@@ -292,13 +254,8 @@ fn keep_two(s: Start, v: u8, stage: Stage) -> Start
     ensures { result ≡ kept_two s v stage }
 {
     Start {
-        stage: stage,
-        address: s.address,
-        sum: base::byte_sum(s.sum, v),
-        pair: Pair {
-            kb1: s.pair.kb1,
-            kb2: v,
-        },
+        pair: Pair { kb2: v, ..s.pair },
+        ..pass_on(s, v, stage)
     }
 }
 
@@ -306,16 +263,7 @@ fn keep_two(s: Start, v: u8, stage: Stage) -> Start
 fn end_request(s: Start, stage: Stage) -> Start
     ensures { result ≡ requested s stage }
 {
-    let pair = Pair {
-        kb1: s.pair.kb1,
-        kb2: s.pair.kb2,
-    };
-    Start {
-        stage: stage,
-        address: s.address,
-        sum: 0,
-        pair: pair,
-    }
+    Start { stage, sum: 0, ..s }
 }
 
 // The initialization after a byte that fits.
@@ -323,8 +271,7 @@ fn end_request(s: Start, stage: Stage) -> Start
 pub fn go_onward(s: Start, v: u8) -> Start
     ensures { result ≡ onward s v }
 {
-    let stage = s.stage;
-    match stage {
+    match s.stage {
         Stage::Sync => pass_on(s, v, Stage::FirstKey),
         Stage::FirstKey => keep_one(s, v, Stage::SecondKey),
         Stage::SecondKey => keep_two(s, v, Stage::KeyBack),
@@ -353,8 +300,7 @@ pub fn go_onward(s: Start, v: u8) -> Start
 pub fn is_last(stage: Stage) -> bool
     ensures { result ≡ is_last stage }
 {
-    let d = due_at(stage);
-    d.last
+    due_at(stage).last
 }
 
 // No initialization.
@@ -363,35 +309,28 @@ pub fn none() -> Start
     ensures { result ≡ no_start }
 {
     Start {
-        stage: Stage::Sync,
+        pair: Pair { kb1: 0, kb2: 0 },
         address: 0,
         sum: 0,
-        pair: Pair { kb1: 0, kb2: 0 },
+        stage: Stage::Sync,
     }
 }
 
 // A slow initialization, just after its address.
-#[tactic(auto, unfolding(crate::specs::Starts::slow_start))]
+#[tactic(auto, unfolding(crate::specs::Starts::slow_start, crate::specs::Starts::no_start))]
 pub fn slow(address: u8) -> Start
     ensures { result ≡ slow_start address }
 {
-    Start {
-        stage: Stage::Sync,
-        address: address,
-        sum: 0,
-        pair: Pair { kb1: 0, kb2: 0 },
-    }
+    Start { address, ..none() }
 }
 
 // A fast initialization, just after its wake-up.
-#[tactic(auto, unfolding(crate::specs::Starts::fast_start))]
+#[tactic(auto, unfolding(crate::specs::Starts::fast_start, crate::specs::Starts::no_start))]
 pub fn fast() -> Start
     ensures { result ≡ fast_start }
 {
     Start {
         stage: Stage::AskFormat,
-        address: 0,
-        sum: 0,
-        pair: Pair { kb1: 0, kb2: 0 },
+        ..none()
     }
 }

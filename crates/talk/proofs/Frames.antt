@@ -20,7 +20,7 @@ use Rattle.keys.specs.declared.Form.{Form}
 use Rattle.keys.specs.declared.Form.TheVariants.{Plain, Physical, Functional, Foreign}
 use Rattle.frame.specs.Layout.{format_form, address_count, extra_count, head_size, total, checksum_of, is_nowhere}
 use Rattle.frame.specs.Read.{place_read, length_read, not_laid, laid_of, not_read, judged, read_of}
-use Rattle.frame.specs.declared.Reading.{Reading}
+use Rattle.frame.specs.Answers.{Reading}
 use Rattle.frame.proofs.Lists.{total_append}
 use Rattle.events.specs.Events.{is_tester, is_unit, is_nobody, same_side}
 use Rattle.events.specs.declared.Side.{Side}

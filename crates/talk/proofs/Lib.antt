@@ -1,3 +1,4 @@
 pub mod One
 pub mod Frames
 pub mod Asking
+pub mod Allowed

@@ -12,10 +12,10 @@ use Rattle.keys.specs.Editions.{edition_of, is_car}
 use Rattle.keys.specs.declared.Form.{Form}
 use Rattle.keys.specs.declared.Form.TheVariants.{Plain, Physical, Functional, Foreign}
 use Rattle.keys.specs.declared.Pair.{Pair}
+use Rattle.timing.specs.Answers.{Decoded}
 use Rattle.timing.specs.Timing.{set_of, decoded_of, is_passed}
 use Rattle.timing.specs.declared.Windows.{Windows}
 use Rattle.timing.specs.declared.Codes.{Codes}
-use Rattle.timing.specs.declared.Decoded.{Decoded}
 use Rattle.frame.specs.Layout.{format_form}
 use Rattle.events.specs.Events.{is_tester, same_side}
 use Rattle.events.specs.declared.Side.{Side}

@@ -14,13 +14,12 @@ fn is_head_byte(side: Side, at: u8, v: u8) -> bool
     ensures { result ≡ is_head_byte side at v }
 {
     let tester = events::is_tester(side);
-    if at == 0 {
-        return v == base::either(tester, 0x68, 0x48);
+    match at {
+        0 => v == base::either(tester, 0x68, 0x48),
+        1 => v == base::either(tester, 0x6A, 0x6B),
+        2 => !tester | (v == 0xF1),
+        _ => true,
     }
-    if at == 1 {
-        return v == base::either(tester, 0x6A, 0x6B);
-    }
-    !tester | (v == 0xF1) | (at != 2)
 }
 
 // One byte more.
@@ -28,10 +27,7 @@ fn is_head_byte(side: Side, at: u8, v: u8) -> bool
 fn count_up(at: u8) -> u8
     ensures { result ≡ counted_up at }
 {
-    if at < MOST_COUNTED {
-        return at + 1;
-    }
-    at
+    if at < MOST_COUNTED { at + 1 } else { at }
 }
 
 // Whether a message may have so many bytes.
@@ -39,7 +35,7 @@ fn count_up(at: u8) -> u8
 fn is_car_size(n: u8) -> bool
     ensures { result ≡ is_car_size n }
 {
-    (5 <= n) & (n <= 11)
+    matches!(n, 5..=11)
 }
 
 // A message with one byte more.
@@ -47,18 +43,14 @@ fn is_car_size(n: u8) -> bool
 pub(crate) fn grow_car(m: Message, v: u8) -> Message
     ensures { result ≡ car_grown m v }
 {
-    let side = m.side;
-    let headed = is_head_byte(side, m.at, v);
+    let headed = is_head_byte(m.side, m.at, v);
     Message {
-        seven: m.seven,
-        side: side,
         part: Part::Free,
-        extra: m.extra,
         length: v,
         at: count_up(m.at),
         sum: base::byte_sum(m.sum, m.length),
-        first: m.first,
         why: base::either(headed, m.why, base::reason::WRONG_FORM),
+        ..m
     }
 }
 
@@ -69,26 +61,23 @@ pub(crate) fn car_reason(m: Message) -> u8
     ensures { result ≡ car_reason m }
 {
     if m.why != base::reason::NONE {
-        return base::reason::WRONG_FORM;
+        base::reason::WRONG_FORM
+    } else if !is_car_size(m.at) {
+        base::reason::WRONG_LENGTH
+    } else if m.length == m.sum {
+        base::reason::NONE
+    } else {
+        base::reason::WRONG_SUM
     }
-    let sized = is_car_size(m.at);
-    if !sized {
-        return base::reason::WRONG_LENGTH;
-    }
-    base::either(
-        m.length == m.sum,
-        base::reason::NONE,
-        base::reason::WRONG_SUM,
-    )
 }
 
 // A message before its first byte.
-fn empty_car(side: Side) -> Message
+pub(crate) fn empty(side: Side) -> Message
     ensures { result ≡ car_empty side }
 {
     Message {
         seven: 0,
-        side: side,
+        side,
         part: Part::Free,
         extra: false,
         length: 0,
@@ -104,5 +93,5 @@ fn empty_car(side: Side) -> Message
 pub(crate) fn begin_car(side: Side, v: u8) -> Message
     ensures { result ≡ car_begun side v }
 {
-    grow_car(empty_car(side), v)
+    grow_car(empty(side), v)
 }

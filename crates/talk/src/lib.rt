@@ -8,27 +8,21 @@ ghost use Rattle.talk.specs.Talk.{is_first, tester_turn, is_stray, is_hasty, uni
 ghost use Rattle.talk.specs.Talk.{has_extra, place_announced, head_reason, frame_reason, first_reason};
 ghost use Rattle.talk.specs.Talk.{after_addresses, part_after_format, begun, begun_by, part_reason, later_reason, is_sum, is_free, end_reason};
 ghost use Rattle.talk.specs.Talk.{with_seven, after_data, with_part, with_length, with_data, grown};
-ghost use Rattle.talk.specs.Talk.{is_exactly, asks_codes, request_of, is_effective, codes_in, if_allowed, windows_for, windows_after};
+ghost use Rattle.talk.specs.Talk.{is_exactly, asks_codes, request_of, is_effective, codes_in, windows_for, windows_after};
 ghost use Rattle.talk.specs.Talk.{spent, request_after, is_stopped};
 
 use events::Side;
 use keys::{Form, Pair};
-use timing::{Codes, Decoded, Windows};
+use timing::{Codes, Windows};
 use units::Micros;
 
-// Where a number that is bytes side by side is cut: 256 to the second, and so on to the sixth.
-const TWO_BYTES: u64 = 256 * 256;
+// Where a number that is bytes side by side is cut: 256 to the fifth, and to the sixth.
+const FIVE_BYTES: u64 = 1 << 40;
 
-const THREE_BYTES: u64 = TWO_BYTES * 256;
-
-const FOUR_BYTES: u64 = THREE_BYTES * 256;
-
-const FIVE_BYTES: u64 = FOUR_BYTES * 256;
-
-const SIX_BYTES: u64 = FIVE_BYTES * 256;
+const SIX_BYTES: u64 = 1 << 48;
 
 // The reply that may come: none, a first one, a further one.
-#[derive(Clone, Copy)]
+#[derive(Clone, Copy, Debug, PartialEq, Eq)]
 pub enum Reply {
     Never,
     First,
@@ -36,7 +30,7 @@ pub enum Reply {
 }
 
 // What the latest tester frame asks for. Stopped is a stop that the unit has answered.
-#[derive(Clone, Copy)]
+#[derive(Clone, Copy, Debug, PartialEq, Eq)]
 pub enum Request {
     Ordinary,
     Stop,
@@ -46,7 +40,7 @@ pub enum Request {
 }
 
 // The part of a message that its next byte is.
-#[derive(Clone, Copy)]
+#[derive(Clone, Copy, Debug, PartialEq, Eq)]
 pub enum Part {
     Target,
     Source,
@@ -61,7 +55,8 @@ pub enum Part {
 // next, whether it has a length byte, its length, the data bytes so far, the sum of all bytes, the
 // first data byte; and the reason of damage. Of a car's message: its last byte (`length`: it has
 // none), how many bytes it has so far, up to 12 (`at`), the sum of all but the last, and whether its
-// head is wrong (`why`).
+// head is wrong (`why`). Numbers stay numbers here, and both kinds one struct: a message is part of the
+// link, and `step` takes any.
 #[derive(Clone, Copy)]
 pub struct Message {
     pub seven: u64,
@@ -80,11 +75,7 @@ pub struct Message {
 pub fn is_first(reply: Reply) -> bool
     ensures { result ≡ is_first reply }
 {
-    match reply {
-        Reply::Never => false,
-        Reply::First => true,
-        Reply::Further => false,
-    }
+    reply == Reply::First
 }
 
 // The reason against a tester's first byte, so long after the mark.
@@ -92,7 +83,7 @@ pub fn is_first(reply: Reply) -> bool
 fn tester_turn(reply: Reply, w: Windows, gap: Micros) -> u8
     ensures { result ≡ tester_turn reply w gap }
 {
-    let early = is_first(reply) | units::earlier(gap, w.p3min);
+    let early = is_first(reply) | (gap < w.p3min);
     base::either(early, base::reason::EARLY, base::reason::NONE)
 }
 
@@ -101,12 +92,7 @@ fn tester_turn(reply: Reply, w: Windows, gap: Micros) -> u8
 fn is_stray(reply: Reply, w: Windows, gap: Micros) -> bool
     ensures { result ≡ is_stray reply w gap }
 {
-    let over = timing::passed(w.p2max, gap);
-    match reply {
-        Reply::Never => true,
-        Reply::First => over,
-        Reply::Further => over,
-    }
+    (reply == Reply::Never) | timing::passed(w.p2max, gap)
 }
 
 // Whether a unit's first byte is early.
@@ -114,7 +100,7 @@ fn is_stray(reply: Reply, w: Windows, gap: Micros) -> bool
 fn is_hasty(w: Windows, gap: Micros) -> bool
     ensures { result ≡ is_hasty w gap }
 {
-    units::earlier(gap, w.p2min)
+    gap < w.p2min
 }
 
 // The reason against a unit's first byte.
@@ -123,12 +109,12 @@ fn unit_turn(reply: Reply, w: Windows, gap: Micros) -> u8
     ensures { result ≡ unit_turn reply w gap }
 {
     if is_stray(reply, w, gap) {
-        return base::reason::STRAY;
+        base::reason::STRAY
+    } else if is_hasty(w, gap) {
+        base::reason::EARLY
+    } else {
+        base::reason::NONE
     }
-    if is_hasty(w, gap) {
-        return base::reason::EARLY;
-    }
-    base::reason::NONE
 }
 
 // The reason against a first byte by its side and time.
@@ -137,12 +123,13 @@ fn turn_reason(reply: Reply, w: Windows, side: Side, gap: Micros) -> u8
     ensures { result ≡ turn_reason reply w side gap }
 {
     if events::is_tester(side) {
-        return tester_turn(reply, w, gap);
+        tester_turn(reply, w, gap)
+    } else {
+        unit_turn(reply, w, gap)
     }
-    unit_turn(reply, w, gap)
 }
 
-// Whether a length byte follows a format byte.
+// Whether a length byte follows a format byte. (`frame` has this line for itself: shared, it would be a public function more.)
 #[tactic(auto, unfolding(crate::specs::Talk::has_extra))]
 fn has_extra(f: u8) -> bool
     ensures { result ≡ has_extra f }
@@ -156,9 +143,10 @@ fn place_announced(kb1: u8, f: u8) -> bool
     ensures { result ≡ place_announced kb1 f }
 {
     if has_extra(f) {
-        return keys::extra_length(kb1);
+        keys::extra_length(kb1)
+    } else {
+        keys::length_in_format(kb1)
     }
-    keys::length_in_format(kb1)
 }
 
 // The reason against a format byte.
@@ -168,28 +156,28 @@ fn head_reason(kb1: u8, f: u8) -> u8
 {
     let form = frame::format_form(f);
     if f / 64 == 1 {
-        return base::reason::MODE_ONE;
+        base::reason::MODE_ONE
+    } else if !keys::takes_form(kb1, form) {
+        base::reason::WRONG_FORM
+    } else if place_announced(kb1, f) {
+        base::reason::NONE
+    } else {
+        base::reason::WRONG_LENGTH
     }
-    let taken = keys::takes_form(kb1, form);
-    if !taken {
-        return base::reason::WRONG_FORM;
-    }
-    if place_announced(kb1, f) {
-        return base::reason::NONE;
-    }
-    base::reason::WRONG_LENGTH
 }
 
-// The reason against the first byte of a message of a 14230 link, so long after the mark, or 0.
+// The reason against the first byte of a message of a 14230 link, so long after the mark, or 0. (Reply, windows, side and
+// gap stay parameters of their own: the promises take them one by one.)
 #[tactic(auto, unfolding(crate::specs::Talk::frame_reason))]
 pub fn frame_reason(kb1: u8, reply: Reply, w: Windows, side: Side, f: u8, gap: Micros) -> u8
     ensures { result ≡ frame_reason kb1 reply w side f gap }
 {
     let turn = turn_reason(reply, w, side, gap);
     if turn == base::reason::NONE {
-        return head_reason(kb1, f);
+        head_reason(kb1, f)
+    } else {
+        turn
     }
-    turn
 }
 
 // The same, of either edition.
@@ -197,10 +185,11 @@ pub fn frame_reason(kb1: u8, reply: Reply, w: Windows, side: Side, f: u8, gap: M
 pub fn first_reason(pair: Pair, reply: Reply, w: Windows, side: Side, f: u8, gap: Micros) -> u8
     ensures { result ≡ first_reason pair reply w side f gap }
 {
-    if keys::is_car(pair) {
-        return turn_reason(reply, w, side, gap);
+    if pair.is_car() {
+        turn_reason(reply, w, side, gap)
+    } else {
+        frame_reason(pair.kb1, reply, w, side, f, gap)
     }
-    frame_reason(pair.kb1, reply, w, side, f, gap)
 }
 
 // The part after the addresses.
@@ -208,10 +197,7 @@ pub fn first_reason(pair: Pair, reply: Reply, w: Windows, side: Side, f: u8, gap
 fn after_addresses(extra: bool) -> Part
     ensures { result ≡ after_addresses extra }
 {
-    if extra {
-        return Part::Length;
-    }
-    Part::Data
+    if extra { Part::Length } else { Part::Data }
 }
 
 // The part after the format byte.
@@ -220,10 +206,8 @@ fn part_after_format(form: Form, extra: bool) -> Part
     ensures { result ≡ part_after_format form extra }
 {
     match form {
-        Form::Plain => after_addresses(extra),
-        Form::Physical => Part::Target,
-        Form::Functional => Part::Target,
-        Form::Foreign => after_addresses(extra),
+        Form::Plain | Form::Foreign => after_addresses(extra),
+        Form::Physical | Form::Functional => Part::Target,
     }
 }
 
@@ -234,15 +218,11 @@ pub fn begin_frame(side: Side, f: u8) -> Message
 {
     let extra = has_extra(f);
     Message {
-        seven: 0,
-        side: side,
         part: part_after_format(frame::format_form(f), extra),
-        extra: extra,
+        extra,
         length: f % 64,
-        at: 0,
         sum: f,
-        first: 0,
-        why: base::reason::NONE,
+        ..cars::empty(side)
     }
 }
 
@@ -251,24 +231,21 @@ pub fn begin_frame(side: Side, f: u8) -> Message
 pub fn begin(pair: Pair, side: Side, f: u8) -> Message
     ensures { result ≡ begun_by pair side f }
 {
-    if keys::is_car(pair) {
-        return cars::begin_car(side, f);
+    if pair.is_car() {
+        cars::begin_car(side, f)
+    } else {
+        begin_frame(side, f)
     }
-    begin_frame(side, f)
 }
 
 // The reason against a byte of the message's own side.
 fn part_reason(m: Message, v: u8) -> u8
     ensures { result ≡ part_reason m.part m v }
 {
-    let part = m.part;
-    match part {
-        Part::Target => base::reason::NONE,
-        Part::Source => base::reason::NONE,
+    match m.part {
         Part::Length => base::either(v == 0, base::reason::WRONG_LENGTH, base::reason::NONE),
-        Part::Data => base::reason::NONE,
         Part::Sum => base::either(v == m.sum, base::reason::NONE, base::reason::WRONG_SUM),
-        Part::Free => base::reason::NONE,
+        Part::Target | Part::Source | Part::Data | Part::Free => base::reason::NONE,
     }
 }
 
@@ -277,12 +254,11 @@ fn part_reason(m: Message, v: u8) -> u8
 pub fn later_reason(m: Message, side: Side, v: u8) -> u8
     ensures { result ≡ later_reason m side v }
 {
-    let whose = m.side;
-    let same = events::same_side(side, whose);
-    if !same {
-        return base::reason::OTHER_SIDE;
+    if events::same_side(side, m.side) {
+        part_reason(m, v)
+    } else {
+        base::reason::OTHER_SIDE
     }
-    part_reason(m, v)
 }
 
 // Whether a message's next byte is its checksum.
@@ -290,14 +266,7 @@ pub fn later_reason(m: Message, side: Side, v: u8) -> u8
 pub fn is_sum(part: Part) -> bool
     ensures { result ≡ is_sum part }
 {
-    match part {
-        Part::Target => false,
-        Part::Source => false,
-        Part::Length => false,
-        Part::Data => false,
-        Part::Sum => true,
-        Part::Free => false,
-    }
+    part == Part::Sum
 }
 
 // Whether a message is a car's.
@@ -305,14 +274,7 @@ pub fn is_sum(part: Part) -> bool
 fn is_free(part: Part) -> bool
     ensures { result ≡ is_free part }
 {
-    match part {
-        Part::Target => false,
-        Part::Source => false,
-        Part::Length => false,
-        Part::Data => false,
-        Part::Sum => false,
-        Part::Free => true,
-    }
+    part == Part::Free
 }
 
 // The reason of a message that has ended because 20 ms have passed, or of a car's that a unit's byte
@@ -321,11 +283,11 @@ fn is_free(part: Part) -> bool
 pub fn end_reason(m: Message) -> u8
     ensures { result ≡ end_reason m }
 {
-    let part = m.part;
-    if is_free(part) {
-        return cars::car_reason(m);
+    if is_free(m.part) {
+        cars::car_reason(m)
+    } else {
+        base::reason::BROKEN_OFF
     }
-    base::reason::BROKEN_OFF
 }
 
 // The first seven data bytes, with the one at an index.
@@ -334,9 +296,10 @@ fn with_seven(seven: u64, at: u8, v: u8) -> u64
     ensures { result ≡ with_seven seven at v }
 {
     if at < 7 {
-        return seven % SIX_BYTES * 256 + v as u64;
+        seven % SIX_BYTES * 256 + v as u64
+    } else {
+        seven
     }
-    seven
 }
 
 // The part after a data byte.
@@ -344,27 +307,17 @@ fn with_seven(seven: u64, at: u8, v: u8) -> u64
 fn after_data(at: u8, length: u8) -> Part
     ensures { result ≡ after_data at length }
 {
-    if at < length {
-        return Part::Data;
-    }
-    Part::Sum
+    if at < length { Part::Data } else { Part::Sum }
 }
 
 // A message with one byte more that is an address or a checksum.
 fn with_part(m: Message, part: Part, v: u8) -> Message
     ensures { result ≡ with_part m part v }
 {
-    let side = m.side;
     Message {
-        seven: m.seven,
-        side: side,
-        part: part,
-        extra: m.extra,
-        length: m.length,
-        at: m.at,
+        part,
         sum: base::byte_sum(m.sum, v),
-        first: m.first,
-        why: m.why,
+        ..m
     }
 }
 
@@ -372,17 +325,9 @@ fn with_part(m: Message, part: Part, v: u8) -> Message
 fn with_length(m: Message, v: u8) -> Message
     ensures { result ≡ with_length m v }
 {
-    let side = m.side;
     Message {
-        seven: m.seven,
-        side: side,
-        part: Part::Data,
-        extra: m.extra,
         length: v,
-        at: m.at,
-        sum: base::byte_sum(m.sum, v),
-        first: m.first,
-        why: m.why,
+        ..with_part(m, Part::Data, v)
     }
 }
 
@@ -391,18 +336,12 @@ fn with_length(m: Message, v: u8) -> Message
 fn with_data(m: Message, v: u8) -> Message
     ensures { result ≡ with_data m v }
 {
-    let side = m.side;
     let at = base::byte_sum(m.at, 1);
     Message {
         seven: with_seven(m.seven, m.at, v),
-        side: side,
-        part: after_data(at, m.length),
-        extra: m.extra,
-        length: m.length,
-        at: at,
-        sum: base::byte_sum(m.sum, v),
+        at,
         first: base::either(m.at == 0, v, m.first),
-        why: m.why,
+        ..with_part(m, after_data(at, m.length), v)
     }
 }
 
@@ -411,8 +350,7 @@ fn with_data(m: Message, v: u8) -> Message
 pub fn grow(m: Message, v: u8) -> Message
     ensures { result ≡ grown m v }
 {
-    let part = m.part;
-    match part {
+    match m.part {
         Part::Target => with_part(m, Part::Source, v),
         Part::Source => with_part(m, after_addresses(m.extra), v),
         Part::Length => with_length(m, v),
@@ -427,7 +365,7 @@ pub fn grow(m: Message, v: u8) -> Message
 fn is_exactly(m: Message, a: u8, b: u8) -> bool
     ensures { result ≡ is_exactly m (a ∷ b ∷ []) }
 {
-    (m.length == 2) & (m.seven == a as u64 * 256 + b as u64)
+    (m.length == 2) & (m.seven == u64::from(u16::from_be_bytes([a, b])))
 }
 
 // Whether a frame's data is 83 03 and five codes.
@@ -444,15 +382,14 @@ pub fn request_of(m: Message) -> Request
     ensures { result ≡ request_of m }
 {
     if m.first == 0x82 {
-        return Request::Stop;
+        Request::Stop
+    } else if is_exactly(m, 0x83, 0x01) {
+        Request::OwnTiming
+    } else if asks_codes(m) {
+        Request::NewTiming
+    } else {
+        Request::Ordinary
     }
-    if is_exactly(m, 0x83, 0x01) {
-        return Request::OwnTiming;
-    }
-    if asks_codes(m) {
-        return Request::NewTiming;
-    }
-    Request::Ordinary
 }
 
 // Whether a unit frame makes a request take effect.
@@ -461,11 +398,10 @@ fn is_effective(request: Request, m: Message) -> bool
     ensures { result ≡ is_effective request m }
 {
     match request {
-        Request::Ordinary => false,
         Request::Stop => m.first == 0xC2,
         Request::OwnTiming => is_exactly(m, 0xC3, 0x01),
         Request::NewTiming => is_exactly(m, 0xC3, 0x03),
-        Request::Stopped => false,
+        Request::Ordinary | Request::Stopped => false,
     }
 }
 
@@ -474,28 +410,18 @@ fn is_effective(request: Request, m: Message) -> bool
 fn codes_in(seven: u64) -> Codes
     ensures { result ≡ codes_in seven }
 {
+    let [_, _, _, p2min, p2max, p3min, p3max, p4min] = seven.to_be_bytes();
     Codes {
-        p2min: (seven / FOUR_BYTES % 256) as u8,
-        p2max: (seven / THREE_BYTES % 256) as u8,
-        p3min: (seven / TWO_BYTES % 256) as u8,
-        p3max: (seven / 256 % 256) as u8,
-        p4min: (seven % 256) as u8,
+        p2min,
+        p2max,
+        p3min,
+        p3max,
+        p4min,
     }
-}
-
-// The windows of codes if they are allowed, else those in force.
-#[tactic(auto, unfolding(crate::specs::Talk::if_allowed))]
-fn if_allowed(d: Decoded, w: Windows) -> Windows
-    ensures { result ≡ if_allowed d w }
-{
-    if d.no == base::TAKEN {
-        return d.windows;
-    }
-    w
 }
 
 // The windows when a request takes effect.
-#[tactic(auto, unfolding(crate::specs::Talk::windows_for))]
+#[tactic(auto, unfolding(crate::specs::Talk::windows_for), using(crate::proofs::Allowed::allowed_or))]
 fn windows_for(request: Request, pair: Pair, seven: u64, w: Windows) -> Windows
     ensures { result ≡ windows_for request pair seven w }
 {
@@ -503,7 +429,7 @@ fn windows_for(request: Request, pair: Pair, seven: u64, w: Windows) -> Windows
         Request::Ordinary => w,
         Request::Stop => w,
         Request::OwnTiming => timing::set_of(pair),
-        Request::NewTiming => if_allowed(timing::windows_of(codes_in(seven)), w),
+        Request::NewTiming => timing::windows_of(codes_in(seven)).unwrap_or(w),
         Request::Stopped => w,
     }
 }
@@ -514,9 +440,10 @@ pub fn windows_after(request: Request, m: Message, pair: Pair, seven: u64, w: Wi
     ensures { result ≡ windows_after request m pair seven w }
 {
     if is_effective(request, m) {
-        return windows_for(request, pair, seven, w);
+        windows_for(request, pair, seven, w)
+    } else {
+        w
     }
-    w
 }
 
 // A request that has taken effect.
@@ -525,11 +452,10 @@ fn spend(request: Request) -> Request
     ensures { result ≡ spent request }
 {
     match request {
-        Request::Ordinary => Request::Ordinary,
         Request::Stop => Request::Stopped,
-        Request::OwnTiming => Request::Ordinary,
-        Request::NewTiming => Request::Ordinary,
-        Request::Stopped => Request::Ordinary,
+        Request::Ordinary | Request::OwnTiming | Request::NewTiming | Request::Stopped => {
+            Request::Ordinary
+        }
     }
 }
 
@@ -539,9 +465,10 @@ pub fn request_after(request: Request, m: Message) -> Request
     ensures { result ≡ request_after request m }
 {
     if is_effective(request, m) {
-        return spend(request);
+        spend(request)
+    } else {
+        request
     }
-    request
 }
 
 // Whether the unit has answered a stop.
@@ -549,11 +476,5 @@ pub fn request_after(request: Request, m: Message) -> Request
 pub fn is_stopped(request: Request) -> bool
     ensures { result ≡ is_stopped request }
 {
-    match request {
-        Request::Ordinary => false,
-        Request::Stop => false,
-        Request::OwnTiming => false,
-        Request::NewTiming => false,
-        Request::Stopped => true,
-    }
+    request == Request::Stopped
 }

@@ -10,17 +10,15 @@ use lib.Dec.{eqb, leb}
 use Rattle.std.specs.Prelude.{if◌then◌else◌}
 use Rattle.base.specs.Numbers.{taken}
 use Rattle.base.proofs.Tests.{and_split, taken_by, up_to, at_each, by_test}
-use Rattle.units.specs.Units.{byte_of, whole_steps, half_of, steps25_of, steps250_of, is_same}
-use Rattle.units.specs.declared.Step25.{Step25}
-use Rattle.units.proofs.Steps.{steps_back}
+use Rattle.units.specs.Units.{Step25, byte_of, whole_steps, half_of, steps25_of, steps250_of, is_same}
+use Rattle.units.proofs.Counting.{steps_back}
 use Rattle.timing.specs.Timing.{is_unlimited, is_allowed, min_of, p2_half, p2_max_of, p3_max_of, windows_by, not_decoded, decoded_of}
 use Rattle.timing.specs.Timing.{min_code, p2_steps_code, p2_code, p3_code, codes_by, same_windows, not_encoded, encoded_of}
+use Rattle.timing.specs.Answers.{Decoded, Encoded}
 use Rattle.timing.specs.Coded.{Bytes, HasCodes}
 use Rattle.timing.specs.declared.Limit.{Limit}
 use Rattle.timing.specs.declared.Windows.{Windows}
 use Rattle.timing.specs.declared.Codes.{Codes}
-use Rattle.timing.specs.declared.Decoded.{Decoded}
-use Rattle.timing.specs.declared.Encoded.{Encoded}
 
 -- what is taken was allowed
 pub decoded_allowed : (c : Codes) → (decoded_of c).no ≡ taken → is_allowed (windows_by c) ≡ true

@@ -3,22 +3,22 @@
 -- Its table 5 prints 83 600 ms for FE: by its own rule, and document 01's, FE is 14 times 6,400 ms, 89,600. Clause 4.5.2 (a reply 7F xx 78 stretches
 -- P2 max) is no rule of document 01, and none here.
 -- Assumes nothing.
-use Rattle.std.specs.Prelude.{ℕ, ◌+◌, ◌*◌, ◌/◌, ◌%◌, Bool, ◌&&◌, ◌||◌, not, eqb, leb, if◌then◌else◌}
+use Rattle.std.specs.Prelude.{ℕ, ◌+◌, ◌*◌, ◌/◌, ◌%◌, Bool, ◌&&◌, ◌||◌, not, eqb, leb, if◌then◌else◌, Result}
+use Rattle.std.specs.Result.{result_unwrap_or}
 use Rattle.base.specs.Numbers.{taken, bad_timing}
+use Rattle.base.specs.Refusals.{no_of}
+use Rattle.base.specs.declared.Refusal.{Refusal}
 use Rattle.keys.specs.Keys.{is_extended}
 use Rattle.keys.specs.Editions.{edition_of}
 use Rattle.keys.specs.declared.Pair.{Pair}
 use Rattle.keys.specs.declared.Edition.{Edition}
 use Rattle.keys.specs.declared.Edition.TheVariants.{Iso14230, Car08, Car94}
-use Rattle.units.specs.Units.{micros, half_ms, half_by, step250_by, byte_of, micros_of_half, micros_of_250, half_of, steps25_of, steps250_of, is_earlier, is_same}
+use Rattle.units.specs.Units.{HalfMs, Step25, micros, half_ms, half_by, step250_by, byte_of, micros_of_half, micros_of_250, half_of, steps25_of, steps250_of, is_earlier, is_same}
 use Rattle.units.specs.declared.Micros.{Micros}
-use Rattle.units.specs.declared.HalfMs.{HalfMs}
-use Rattle.units.specs.declared.Step25.{Step25}
 use Rattle.timing.specs.declared.Limit.{Limit}
 use Rattle.timing.specs.declared.Windows.{Windows}
 use Rattle.timing.specs.declared.Codes.{Codes}
-use Rattle.timing.specs.declared.Decoded.{Decoded}
-use Rattle.timing.specs.declared.Encoded.{Encoded}
+use Rattle.timing.specs.Answers.{Decoded, Encoded}
 
 -- The end of a window is a time, or no limit. No limit is a value of its own: it stands as the greatest number that a `Micros` holds, and a
 -- definition that puts an end before or after a time asks `is_unlimited` first.
@@ -139,6 +139,10 @@ not_decoded = record {
   };
 }
 
+-- the result of `windows_of` in these numbers
+abbrev pub answer_decoded : Result Windows Refusal → Decoded
+answer_decoded r = record { no = no_of r; windows = result_unwrap_or r not_decoded.windows }
+
 unfoldable pub decoded_of : Codes → Decoded
 decoded_of c = if is_allowed (windows_by c) then record { no = taken; windows = windows_by c } else not_decoded
 
@@ -176,6 +180,10 @@ same_windows a b =
 -- "Codes become windows and windows codes; a window no code gives is 10": codes that give these windows back, if they are allowed, else 10
 abbrev pub not_encoded : Encoded
 not_encoded = record { no = bad_timing; codes = record { p2min = 0; p2max = 0; p3min = 0; p3max = 0; p4min = 0 } }
+
+-- the result of `codes_of` in these numbers
+abbrev pub answer_encoded : Result Codes Refusal → Encoded
+answer_encoded r = record { no = no_of r; codes = result_unwrap_or r not_encoded.codes }
 
 unfoldable pub encoded_of : Windows → Encoded
 encoded_of w =

@@ -2,7 +2,7 @@
 ghost use Rattle.std.specs.Prelude.{◌≡◌};
 ghost use Rattle.timing.specs.Timing.{p2_half};
 
-use units::HalfMs;
+use units::{HalfMs, Steps};
 
 // P2 max by its code byte, in half milliseconds. 0 where the code gives no number: 00, FF.
 const P2_MAX: [u32; 256] = [
@@ -26,9 +26,9 @@ const P2_MAX: [u32; 256] = [
 ];
 
 // P2 max by its code byte, read off the table.
-#[tactic(auto, unfolding(crate::specs::P2Table::table))]
+#[tactic(auto, unfolding(crate::specs::P2Table::table), using(crate::proofs::P2Table::rule))]
 pub(crate) fn p2_half(code: u8) -> HalfMs
     ensures { result ≡ p2_half code }
 {
-    HalfMs(P2_MAX[code as usize])
+    Steps(P2_MAX[code as usize])
 }

@@ -2,56 +2,47 @@
 -- Assumes nothing.
 use Prim.Native.Nat.{ℕ, ◌+◌, ◌≤◌, ◌<◌}
 use mathlib.Core.Path.{◌≡◌, refl}
-use mathlib.Core.Bool.{Bool, true, false, ◌||◌}
+use mathlib.Core.Bool.{Bool, true, false}
 use mathlib.Core.List.{List}
 use lib.Dec.{eqb, leb}
 use lib.ListN.{drop}
-use borrow.Author.Tests.{le-leb, le-ltb, lt-ltb, eq-eqb, ne_eqb}
+use borrow.Author.Tests.{le-leb, lt-leb, eq-eqb, ne_eqb}
 use native.Mathlib.Omega.{arith}
+use Rattle.std.specs.Prelude.{Option, Some, None, option_and_then, if◌then◌else◌}
 use Rattle.base.specs.Sums.{greatest}
 use Rattle.words.specs.Digits.{is_digit}
-use Rattle.words.specs.Reading.{start_of, run_of, number_by, held, digits_at, no_number, number_in, number_at}
-
-taken_by : (w k n most : ℕ) → most ≤ greatest → 0 < w → 0 < k → n ≤ most → number_in w most (held n (w + k)) ≡ record { value = n; to = w + k }
-unfolding number_in
-taken_by w k n most m h p l =
-    rw (ne_eqb w 0 (λ e. omega arith), ne_eqb (w + k) w (λ e. omega arith), le-leb n greatest (omega arith), le-ltb most n l)
+use Rattle.words.specs.Reading.{start_of, run_of, number_by, held, number_in, number_at}
+use Rattle.words.specs.declared.Word.{Word}
 
 -- a number that is not above the bound is read, with all of its digits
-pub number_taken : (s : List ℕ) (at most : ℕ) → most ≤ greatest → 0 < start_of s at → 0 < run_of is_digit (drop (start_of s at) s)
-    → number_by 0 (drop (start_of s at) s) ≤ most
-    → number_at s at most ≡ record { value = number_by 0 (drop (start_of s at) s); to = start_of s at + run_of is_digit (drop (start_of s at) s) }
-unfolding number_at digits_at
-number_taken s at most m h p l = taken_by (start_of s at) (run_of is_digit (drop (start_of s at) s)) (number_by 0 (drop (start_of s at) s)) most m h p l
+pub number_taken : (s : List ℕ) (at most w : ℕ) → most ≤ greatest → start_of s at ≡ Some w → 0 < run_of is_digit (drop w s) → number_by 0 (drop w s) ≤ most
+    → number_at s at most ≡ Some (record { value = number_by 0 (drop w s); to = w + run_of is_digit (drop w s) })
+unfolding number_at number_in
+number_taken s at most w m e p l =
+    let n = number_by 0 (drop w s) in
+    rw (e, ne_eqb (run_of is_digit (drop w s)) 0 (λ z. omega arith), le-leb n greatest (omega arith), le-leb n most l)
 
-above_by : (b t : Bool) (w n most to : ℕ) → (eqb w 0 || eqb to w) ≡ b → leb n greatest ≡ t → most < n → number_in w most (held n to) ≡ no_number
-unfolding number_in
-above_by true t w n most to g e h = rw g
-above_by false true w n most to g e h = rw (g, e, lt-ltb most n h)
-above_by false false w n most to g e h = rw (g, e)
+above_by : (a b : Bool) (n most to : ℕ) → eqb to 0 ≡ a → leb n greatest ≡ b → most < n → (w : ℕ)
+    → ◌≡◌ {A = Option (Word ℕ)}
+    (if eqb to 0 then None else option_and_then (λ k. if leb k most then Some (record { value = k; to = w }) else None) (held n)) None
+above_by true b n most to f g h w = rw f
+above_by false true n most to f g h w = rw (f, g, lt-leb n most h)
+above_by false false n most to f g h w = rw (f, g)
 
 -- one above it is not, ..
-pub number_above : (s : List ℕ) (at most : ℕ) → most < number_by 0 (drop (start_of s at) s) → number_at s at most ≡ no_number
-unfolding number_at digits_at
-number_above s at most h =
-    let w = start_of s at in
+pub number_above : (s : List ℕ) (at most w : ℕ) → start_of s at ≡ Some w → most < number_by 0 (drop w s) → number_at s at most ≡ None
+unfolding number_at number_in
+number_above s at most w e h =
     let n = number_by 0 (drop w s) in
-    let to = w + run_of is_digit (drop w s) in
-    above_by (eqb w 0 || eqb to w) (leb n greatest) w n most to refl refl h
-
-none_by : (b : Bool) (w n most to : ℕ) → eqb w 0 ≡ b → to ≡ w → number_in w most (held n to) ≡ no_number
-unfolding number_in
-none_by true w n most to g e = rw g
-none_by false w n most to g e = rw (g, eq-eqb to w e)
+    let k = run_of is_digit (drop w s) in
+    rw e (above_by (eqb k 0) (leb n greatest) n most k refl refl h (w + k))
 
 -- .. nor is what has no digit, ..
-pub number_none : (s : List ℕ) (at most : ℕ) → run_of is_digit (drop (start_of s at) s) ≡ 0 → number_at s at most ≡ no_number
-unfolding number_at digits_at
-number_none s at most h =
-    let w = start_of s at in
-    none_by (eqb w 0) w (number_by 0 (drop w s)) most (w + run_of is_digit (drop w s)) refl (omega (arith, h))
+pub number_none : (s : List ℕ) (at most w : ℕ) → start_of s at ≡ Some w → run_of is_digit (drop w s) ≡ 0 → number_at s at most ≡ None
+unfolding number_at number_in
+number_none s at most w e h = rw (e, eq-eqb (run_of is_digit (drop w s)) 0 h)
 
 -- .. nor what no space stands before
-pub number_unspaced : (s : List ℕ) (at most : ℕ) → start_of s at ≡ 0 → number_at s at most ≡ no_number
-unfolding number_at number_in
-number_unspaced s at most h = rw (eq-eqb (start_of s at) 0 h)
+pub number_unspaced : (s : List ℕ) (at most : ℕ) → start_of s at ≡ None → number_at s at most ≡ None
+unfolding number_at
+number_unspaced s at most h = rw h

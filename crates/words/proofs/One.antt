@@ -4,40 +4,38 @@ use mathlib.Core.Bool.{Bool}
 use mathlib.Core.List.{List}
 use Prim.Native.Nat.{ℕ, ◌+◌}
 use lib.Dec.{leb}
-use lib.ListN.{length, drop}
-use Rattle.std.specs.Prelude.{if◌then◌else◌}
+use lib.ListN.{length}
+use Rattle.std.specs.Prelude.{Option, if◌then◌else◌}
 use Rattle.base.proofs.One.{Only, only, only_both}
-use Rattle.words.specs.Digits.{is_digit, hex_of}
-use Rattle.words.specs.Reading.{start_of, is_end, first_word, word_at, byte_at, number_at, bytes_at, pairs, ReadsBytes}
+use Rattle.words.specs.Digits.{is_digit, digit_of}
+use Rattle.words.specs.Reading.{is_end, first_word, word_at, byte_at, number_at, bytes_at, with_read, ReadsBytes}
 use Rattle.words.specs.Writing.{number_text, number_most, byte_text, bytes_text, put, fits, Writes}
-use Rattle.words.specs.declared.ByteWord.{ByteWord}
-use Rattle.words.specs.declared.NumberWord.{NumberWord}
-use Rattle.words.specs.declared.BytesWord.{BytesWord}
+use Rattle.words.specs.declared.Word.{Word}
 
 pub is_digit_lem : (b : ℕ) → Only (λ (r : Bool). r ≡ is_digit b)
 is_digit_lem b = only (is_digit b)
 
-pub hex : (b : ℕ) → Only (λ (r : ℕ). r ≡ hex_of b)
-hex b = only (hex_of b)
+pub hex : (b : ℕ) → Only (λ (r : Option ℕ). r ≡ digit_of b)
+hex b = only (digit_of b)
 
 pub is_end_lem : (s : List ℕ) (at : ℕ) → Only (λ (r : Bool). r ≡ is_end s at)
 is_end_lem s at = only (is_end s at)
 
-pub read_first : (s name : List ℕ) → Only (λ (r : ℕ). r ≡ first_word s name)
+pub read_first : (s name : List ℕ) → Only (λ (r : Option ℕ). r ≡ first_word s name)
 read_first s name = only (first_word s name)
 
-pub read_word : (s : List ℕ) (at : ℕ) (name : List ℕ) → Only (λ (r : ℕ). r ≡ word_at s at name)
+pub read_word : (s : List ℕ) (at : ℕ) (name : List ℕ) → Only (λ (r : Option ℕ). r ≡ word_at s at name)
 read_word s at name = only (word_at s at name)
 
-pub read_byte_lem : (s : List ℕ) (at : ℕ) → Only (λ (r : ByteWord). r ≡ byte_at s at)
+pub read_byte_lem : (s : List ℕ) (at : ℕ) → Only (λ (r : Option (Word ℕ)). r ≡ byte_at s at)
 read_byte_lem s at = only (byte_at s at)
 
-pub read_number : (s : List ℕ) (at most : ℕ) → Only (λ (r : NumberWord). r ≡ number_at s at most)
+pub read_number : (s : List ℕ) (at most : ℕ) → Only (λ (r : Option (Word ℕ)). r ≡ number_at s at most)
 read_number s at most = only (number_at s at most)
 
-pub read_bytes : (s : List ℕ) (at : ℕ) (out : List ℕ) → Only (λ (x : BytesWord × List ℕ). ReadsBytes s at out x.0 x.1)
+pub read_bytes : (s : List ℕ) (at : ℕ) (out : List ℕ) → Only (λ (x : Option (Word ℕ) × List ℕ). ReadsBytes s at out x.0 x.1)
 read_bytes s at out =
-    only_both (bytes_at s at (length out)) (put 0 (pairs (bytes_at s at (length out)).len (drop (start_of s at) s)) out) (λ x r. (r.answer, r.memory))
+    only_both (bytes_at s at (length out)) (with_read s at out (bytes_at s at (length out))) (λ x r. (r.answer, r.memory))
 
 pub has_room : (len at most : ℕ) → Only (λ (r : Bool). r ≡ leb (at + most) len)
 has_room len at most = only (leb (at + most) len)

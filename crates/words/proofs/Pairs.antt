@@ -1,13 +1,18 @@
 -- Laws of bytes by their hex digits: read two digits at a time, and written so. Assumes nothing.
-use Prim.Native.Nat.{ℕ, zero, suc, ◌+◌, ◌*◌, ◌≤◌, ◌<◌}
+use Prim.Native.Nat.{ℕ, zero, suc, ◌+◌, ◌*◌, ◌-◌, ◌≤◌, ◌<◌}
 use mathlib.Core.Path.{◌≡◌, refl, sym, ◌∙◌, ap}
+use mathlib.Core.Bool.{Bool, true, false, false≢true}
 use mathlib.Core.List.{List, [], ◌∷◌, ◌++◌, append_assoc}
-use lib.ListN.{length, get_or, take, drop, set, length-append, length-set}
-use lib.Seq.{take-suc, get_or-drop, length-take-le}
+use lib.Dec.{eqb}
+use borrow.Author.Tests.{eqb-true, eq-eqb}
+use lib.ListN.{length, get_or, take, drop, set, length-append, length-drop, length-set}
+use lib.Seq.{take-suc, take-length, get_or-drop, length-take-le}
 use native.Mathlib.Omega.{arith}
 use native.Mathlib.Numerals.{add-one}
-use native.Mathlib.Nat.{add_assoc}
-use Rattle.words.specs.Digits.{pair_of, high_of, low_of}
+use Rattle.std.specs.List.{prefix_len}
+use Rattle.std.proofs.lemmas.List.Sums.{prefix_len_passes}
+use Rattle.std.specs.Prelude.{Some, None, ◌&&◌, if◌then◌else◌}
+use Rattle.words.specs.Digits.{is_digit, is_capital, hex_of, raised_of, either_of, is_hex, pair_of, front_byte, high_of, low_of}
 use Rattle.words.specs.Reading.{pairs}
 use Rattle.words.specs.Writing.{hex_text, bytes_text, put, Writes, Puts}
 use Rattle.words.proofs.Written.{put_one, put_put, length_put, put_nil}
@@ -18,6 +23,16 @@ put_on at p out i x e h =
     rw e (put_one (put at p out) (at + length p) x (omega (arith, length_put at p out (omega arith))) ∙ put_put at p (x ∷ []) out (omega arith))
 
 -- ---- read
+no_digit : (t : Bool) (x : ℕ) → None ≡ (if t && false then Some x else None)
+no_digit true x = refl
+no_digit false x = refl
+
+pub byte_short : (s : List ℕ) → length s < 2 → None ≡ front_byte s
+unfolding front_byte is_hex either_of raised_of hex_of is_digit is_capital
+byte_short [] h = refl
+byte_short (b ∷ []) h = no_digit (is_hex b) (pair_of b 0)
+byte_short (b ∷ c ∷ s) h = absurd (omega arith)
+
 pub length_pairs : (k : ℕ) (d : List ℕ) → length (pairs k d) ≡ k
 unfolding pairs
 length_pairs zero d = refl
@@ -27,11 +42,22 @@ pairs_on : (k : ℕ) (d : List ℕ) → pairs (k + 1) d ≡ pairs k d ++ (pair_o
 unfolding pairs
 pairs_on k d = rw add-one
 
-pub decoded_on : (s out₀ out : List ℕ) (from k i x : ℕ) → i < k → k ≤ length out₀ → out ≡ put 0 (pairs i (drop from s)) out₀
-    → x ≡ pair_of (get_or s (from + 2 * i) 0) (get_or s (from + 2 * i + 1) 0) → set out i x ≡ put 0 (pairs (i + 1) (drop from s)) out₀
-decoded_on s out₀ out from k i x h l e ex =
-    rw (e, ex, pairs_on i (drop from s), get_or-drop from s (2 * i) 0, get_or-drop from s (2 * i + 1) 0, ← (add_assoc from (2 * i) 1))
-    (put_on 0 (pairs i (drop from s)) out₀ i (pair_of (get_or s (from + 2 * i) 0) (get_or s (from + 2 * i + 1) 0)) (omega (arith, length_pairs i (drop from s))) (omega arith))
+-- two digits of a run of them are a byte
+pub byte_there : (s : List ℕ) (i n : ℕ) → n ≡ length s - 2 * i → 2 * i + 1 < prefix_len is_hex s
+    → front_byte (take n (drop (2 * i) s)) ≡ Some (pair_of (get_or s (2 * i) 0) (get_or s (2 * i + 1) 0))
+unfolding front_byte
+byte_there s i n e h =
+    let p = prefix_len_passes is_hex s (2 * i) 0 (omega arith) in
+    let q = prefix_len_passes is_hex s (2 * i + 1) 0 h in
+    let z : 2 * i + 0 ≡ 2 * i = omega arith in
+    let l : length (drop (2 * i) s) ≡ n = omega (arith, length-drop (2 * i) s) in
+    rw (← l, take-length (drop (2 * i) s), get_or-drop (2 * i) s 0 0, get_or-drop (2 * i) s 1 0, z, p, q)
+
+pub decoded_on : (s out₀ out : List ℕ) (k i x : ℕ) → i < k → k ≤ length out₀ → out ≡ put 0 (pairs i s) out₀
+    → x ≡ pair_of (get_or s (2 * i) 0) (get_or s (2 * i + 1) 0) → set out i x ≡ put 0 (pairs (i + 1) s) out₀
+decoded_on s out₀ out k i x h l e ex =
+    rw (e, ex, pairs_on i s)
+    (put_on 0 (pairs i s) out₀ i (pair_of (get_or s (2 * i) 0) (get_or s (2 * i + 1) 0)) (omega (arith, length_pairs i s)) (omega arith))
 
 -- ---- written
 pub length_hex : (s : List ℕ) → length (hex_text s) ≡ 2 * length s
@@ -89,12 +115,12 @@ hex_puts at s b out o1 h e =
     }
 
 -- the two of them, with and without room
-pub some_bytes : (at : ℕ) (s : List ℕ) (b : ℕ) (out : List ℕ) (r : ℕ) (after : List ℕ) → (length s ≡ 0 → ⊥) → Writes (hex_text s ++ (b ∷ [])) (2 * length s + 1) at out r after
+pub some_bytes : (at : ℕ) (s : List ℕ) (b : ℕ) (out : List ℕ) (r : ℕ) (after : List ℕ) → eqb (length s) 0 ≡ false → Writes (hex_text s ++ (b ∷ [])) (2 * length s + 1) at out r after
     → Writes (bytes_text s b) (length (bytes_text s b)) at out r after
 some_bytes at s b out r after h w =
     let e : length (hex_text s ++ (b ∷ [])) ≡ 2 * length s + 1 = rw (length-append, length_hex s) in
-    rw (bytes_some s b h, e) w
+    rw (bytes_some s b (λ z. absurd (false≢true (sym h ∙ eq-eqb (length s) 0 z))), e) w
 
-pub no_bytes : (at : ℕ) (s : List ℕ) (b : ℕ) (out : List ℕ) (r : ℕ) (after : List ℕ) → length s ≡ 0 → Writes (45 ∷ b ∷ []) 2 at out r after
+pub no_bytes : (at : ℕ) (s : List ℕ) (b : ℕ) (out : List ℕ) (r : ℕ) (after : List ℕ) → eqb (length s) 0 ≡ true → Writes (45 ∷ b ∷ []) 2 at out r after
     → Writes (bytes_text s b) (length (bytes_text s b)) at out r after
-no_bytes at s b out r after h w = rw (bytes_none s b h) w
+no_bytes at s b out r after h w = rw (bytes_none s b (eqb-true (length s) 0 h)) w

@@ -1,5 +1,5 @@
 -- The digits of a number: counted, and written from the right. Assumes nothing.
-use Prim.Native.Nat.{ℕ, zero, suc, ◌+◌, ◌*◌, ◌-◌, ◌/◌, ◌%◌, ◌≤◌, ◌<◌, ◌^◌}
+use Prim.Native.Nat.{ℕ, zero, suc, ◌+◌, ◌-◌, ◌/◌, ◌%◌, ◌≤◌, ◌<◌}
 use mathlib.Core.Path.{◌≡◌, refl, sym, ◌∙◌}
 use mathlib.Core.Bool.{Bool, true, false}
 use mathlib.Core.List.{List, [], ◌∷◌, ◌++◌, append_assoc, append-nil}
@@ -9,7 +9,6 @@ use lib.Seq.{take-suc, set_at, length-take-le}
 use borrow.Author.Tests.{lt-ltb, le-ltb}
 use native.Mathlib.Omega.{arith}
 use native.Mathlib.Numerals.{add-one}
-use native.Mathlib.Nat.{zero-add, pow-succ'}
 use Rattle.std.specs.Prelude.{if◌then◌else◌}
 use Rattle.words.specs.Writing.{digit_count, digits_of, put}
 
@@ -24,15 +23,9 @@ unfolding digit_count
 count_end zero v h = refl
 count_end (suc f) v h = rw (lt-ltb _ _ h)
 
-pub less : (f v : ℕ) → 0 < f → v < 10 ^ (f + 1) → v / 10 < 10 ^ (f - 1 + 1)
-less f v k h =
-    let e : f - 1 + 1 ≡ f = omega arith in
-    let g : 10 ^ (f + 1) ≡ 10 * 10 ^ f = rw add-one (pow-succ' 10 f) in
-    rw e (omega arith)
-
-pub no_more : (f v : ℕ) → 10 ≤ v → v < 10 ^ (f + 1) → 0 < f
-no_more zero v h k = let k2 : v < 10 = k in absurd (omega arith)
-no_more (suc f) v h k = omega arith
+pub count_one : (v : ℕ) → digit_count 0 v ≡ 1
+unfolding digit_count
+count_one v = refl
 
 pub length_digits : (k n : ℕ) → length (digits_of k n) ≡ k
 unfolding digits_of
@@ -71,15 +64,13 @@ spelled_on at k n out₀ out (suc j) v x h pos ex p =
       kept = simp length-set p.kept;
     }
 
-pub spelled_start : (at k n : ℕ) (out : List ℕ) → Spelled at k n out out k n
-spelled_start at k n out =
-    record {
-      w = [];
-      size = omega arith;
-      all = append-nil (digits_of k n);
-      memory = sym (take-append-drop (at + k) out);
-      kept = refl;
-    }
+-- the same by the place that is written
+pub spelled_down : (at k n : ℕ) (out₀ out : List ℕ) (i v x : ℕ) → at + k ≤ length out₀ → at < i → x ≡ 48 + v % 10 → Spelled at k n out₀ out (i - at) v
+    → Spelled at k n out₀ (set out (i - 1) x) (i - 1 - at) (v / 10)
+spelled_down at k n out₀ out i v x h l ex p =
+    let e : at + (i - at - 1) ≡ i - 1 = omega arith in
+    let f : i - at - 1 ≡ i - 1 - at = omega arith in
+    rw (e, f) at (spelled_on at k n out₀ out (i - at) v x h (omega arith) ex p)
 
 digits_zero : (v : ℕ) → digits_of 0 v ≡ []
 unfolding digits_of
@@ -92,32 +83,6 @@ spelled_end at k n out₀ out zero v h p =
     let z : at + 0 ≡ at = omega arith in
     p.memory ∙ rw (z, e, length_digits k n)
 spelled_end at k n out₀ out (suc j) v h p = absurd (omega arith)
-
--- the loop that counts the digits
-pub record Counted (n k v : ℕ) : Type 0 where
-  pub some : 1 ≤ k
-  pub few : k ≤ 20
-  pub below : v < 10 ^ (20 - k + 1)
-  pub sum : digit_count 19 n ≡ k - 1 + digit_count (20 - k) v
-
-pub counted_start : (n : ℕ) → n < 10 ^ 20 → Counted n 1 n
-counted_start n h = record { some = omega arith; few = omega arith; below = h; sum = sym (zero-add _) }
-
-pub counted_on : (n k v : ℕ) → 10 ≤ v → Counted n k v → Counted n (k + 1) (v / 10)
-counted_on n k v h p =
-    let pos = no_more (20 - k) v h p.below in
-    let e : 20 - k - 1 ≡ 20 - (k + 1) = omega arith in
-    let l = less (20 - k) v pos p.below in
-    let t = count_on (20 - k) v h pos in
-    record {
-      some = omega arith;
-      few = omega arith;
-      below = rw e at l;
-      sum = p.sum ∙ (rw (t, e) (omega (arith, p.some)));
-    }
-
-pub counted_end : (n k v : ℕ) → v < 10 → Counted n k v → k ≡ digit_count 19 n
-counted_end n k v h p = omega (arith, p.sum, p.some, count_end (20 - k) v h)
 
 -- a number has at most 20 digits
 few_by : (b : Bool) (m k : ℕ) → m ≤ k → (if b then 1 else suc m) ≤ suc k

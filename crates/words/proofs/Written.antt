@@ -1,13 +1,13 @@
 -- Laws of texts written into a buffer: one after another, the room for them, and the two promises, one from the other. Assumes nothing.
-use Prim.Native.Nat.{ℕ, suc, ◌+◌, ◌-◌, ◌≤◌, ◌<◌}
+use Prim.Native.Nat.{ℕ, suc, ◌+◌, ◌≤◌, ◌<◌}
 use mathlib.Core.Path.{◌≡◌, refl, sym, ◌∙◌}
-use mathlib.Core.Bool.{Bool, true, false, not}
+use mathlib.Core.Bool.{Bool, true, false}
 use mathlib.Core.List.{List, [], ◌∷◌, ◌++◌, append_assoc}
 use lib.Dec.{leb}
 use lib.ListN.{length, take, drop, set, length-append, length-take, length-drop, length-set, take-append-drop}
 use lib.Seq.{length-take-le, take_at, drop-append-add, drop-drop, set_split}
 use borrow.Rule.Slice.PartMut.{put_mid}
-use borrow.Author.Tests.{le-leb, lt-leb, leb-true, leb-false, not-true, not-false}
+use borrow.Author.Tests.{le-leb}
 use native.Mathlib.Omega.{arith}
 use native.Mathlib.Nat.{add_assoc}
 use Rattle.std.specs.Prelude.{if◌then◌else◌}
@@ -109,22 +109,9 @@ copied at n s out last en h e =
       kept = rw m (simp (length-append, length-take, length-drop) (omega arith));
     }
 
--- the test of the room
-room_by : (b : Bool) (len at most : ℕ) → leb (at + most) len ≡ b → at ≤ len → leb most (len - at) ≡ b
-room_by true len at most e h = le-leb most (len - at) (omega (arith, leb-true (at + most) len e))
-room_by false len at most e h = lt-leb most (len - at) (omega (arith, leb-false (at + most) len e))
-
-pub room_behind : (len at most : ℕ) → at ≤ len → leb most (len - at) ≡ leb (at + most) len
-room_behind len at most h = room_by (leb (at + most) len) len at most refl h
-
-pub room_there : (h : Bool) (len at most : ℕ) → h ≡ leb (at + most) len → not h ≡ false → at + most ≤ len
-room_there h len at most e t = leb-true (at + most) len (sym e ∙ not-false h t)
-
 -- without room nothing is written
-pub no_room : (p : List ℕ) (most at : ℕ) (out : List ℕ) (h : Bool) → h ≡ leb (at + most) (length out) → not h ≡ true → Writes p most at out at out
-no_room p most at out h e f =
-    let g : leb (at + most) (length out) ≡ false = sym e ∙ not-true h f in
-    record { place = rw g; memory = rw g }
+pub no_room : (p : List ℕ) (most at : ℕ) (out : List ℕ) → leb (at + most) (length out) ≡ false → Writes p most at out at out
+no_room p most at out g = record { place = rw g; memory = rw g }
 
 -- nothing to write, with room or without
 both_same : (b : Bool) {A : Type 0} (x : A) → x ≡ (if b then x else x)

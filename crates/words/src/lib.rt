@@ -11,34 +11,20 @@ pub use reading::{is_end, read_byte, read_bytes, read_first, read_number, read_w
 pub use writing::{has_room, put_byte, put_bytes, put_number, put_text};
 
 // The byte between two words.
-pub const SPACE: u8 = 32;
+pub const SPACE: u8 = b' ';
 
 // The byte after a line.
-pub const LINE_FEED: u8 = 10;
+pub const LINE_FEED: u8 = b'\n';
 
 // What stands for no bytes at all.
-const DASH: u8 = 45;
+const DASH: u8 = b'-';
 
 // The room for a number with the byte after it, the most bytes that these have.
 pub const NUMBER_MOST: usize = 21;
 
-// A byte that was read, and the place after it: 0 where none stands there.
+// What was read, and the place after it.
 #[derive(Clone, Copy)]
-pub struct ByteWord {
-    pub value: u8,
-    pub to: usize,
-}
-
-// A number that was read, and the place after it: 0 where none stands there.
-#[derive(Clone, Copy)]
-pub struct NumberWord {
-    pub value: u64,
-    pub to: usize,
-}
-
-// How many bytes were read, and the place after them: 0 where none stand there, and no `-` either.
-#[derive(Clone, Copy)]
-pub struct BytesWord {
-    pub len: usize,
+pub struct Word<T> {
+    pub value: T,
     pub to: usize,
 }

@@ -10,38 +10,34 @@ use crate::{DASH, NUMBER_MOST, digits};
 pub fn has_room(len: usize, at: usize, most: usize) -> bool
     ensures { result ≡ leb (at + most) len }
 {
-    if len < at {
-        return false;
-    }
-    most <= len - at
+    at <= len && most <= len - at
 }
 
 // How many decimal digits n has.
-#[tactic(auto, using(crate::proofs::Spelling::counted_end))]
+#[tactic(auto, using(crate::proofs::Spelling::count_on, crate::proofs::Spelling::count_end, crate::proofs::Spelling::count_one))]
 fn count_digits(n: u64) -> usize
     ensures { (result ≡ digit_count 19 n) × (result ≤ 20) }
 {
-    let mut k = 1;
     let mut v = n;
-    while 10 <= v {
-        v = v / 10;
-        k += 1;
+    for k in 1..20 {
+        if v < 10 {
+            return k;
+        }
+        v /= 10;
     }
-    k
+    20
 }
 
 // Writes the last k digits of n, from the right.
-#[tactic(auto, using(crate::proofs::Spelling::spelled_on))]
+#[tactic(auto, using(crate::proofs::Spelling::spelled_down))]
 fn spell(out: &mut [u8], at: usize, n: u64, k: usize)
     requires { at + k ≤ length out.old }
     ensures { out.new ≡ put at (digits_of k n) out.old }
 {
-    let mut j = k;
     let mut v = n;
-    while 0 < j {
-        j -= 1;
-        out[at + j] = 48 + (v % 10) as u8;
-        v = v / 10;
+    for i in (at..at + k).rev() {
+        out[i] = b'0' + (v % 10) as u8;
+        v /= 10;
     }
 }
 
@@ -61,14 +57,15 @@ fn write_number(out: &mut [u8], at: usize, n: u64, behind: u8) -> usize
 pub fn put_number(out: &mut [u8], at: usize, n: u64, behind: u8) -> usize
     ensures { Writes (number_text n behind) number_most at out.old result out.new }
 {
-    let room = has_room(out.len(), at, NUMBER_MOST);
-    if !room {
-        return at;
+    if has_room(out.len(), at, NUMBER_MOST) {
+        write_number(out, at, n, behind)
+    } else {
+        at
     }
-    write_number(out, at, n, behind)
 }
 
 // Writes a text, where there is room.
+#[tactic(auto, using(crate::proofs::Written::copied))]
 fn write_text(out: &mut [u8], at: usize, s: &[u8]) -> usize
     requires { at + length s.now ≤ length out.old }
     ensures { Puts at s.now (length s.now) out.old result out.new }
@@ -81,19 +78,18 @@ fn write_text(out: &mut [u8], at: usize, s: &[u8]) -> usize
 pub fn put_text(out: &mut [u8], at: usize, s: &[u8]) -> usize
     ensures { Writes s.now (length s.now) at out.old result out.new }
 {
-    let room = has_room(out.len(), at, s.len());
-    if !room {
-        return at;
+    if has_room(out.len(), at, s.len()) {
+        write_text(out, at, s)
+    } else {
+        at
     }
-    write_text(out, at, s)
 }
 
 // A byte by its two hex digits, and one byte after it: three bytes of room.
 pub fn put_byte(out: &mut [u8], at: usize, x: u8, behind: u8) -> usize
     ensures { Writes (byte_text x behind) 3 at out.old result out.new }
 {
-    let text = [digits::glyph(x / 16), digits::glyph(x), behind];
-    put_text(out, at, &text)
+    put_text(out, at, &[digits::glyph(x / 16), digits::glyph(x), behind])
 }
 
 // Writes the hex digits of bytes, two for each, where there is room.
@@ -102,12 +98,9 @@ fn write_hex(out: &mut [u8], at: usize, s: &[u8])
     requires { at + 2 * length s.now ≤ length out.old }
     ensures { out.new ≡ put at (hex_text s.now) out.old }
 {
-    let mut i = 0;
-    while i < s.len() {
-        let x = s[i];
-        out[at + 2 * i] = digits::glyph(x / 16);
-        out[at + 2 * i + 1] = digits::glyph(x);
-        i += 1;
+    for (i, x) in s.iter().enumerate() {
+        out[at + 2 * i] = digits::glyph(*x / 16);
+        out[at + 2 * i + 1] = digits::glyph(*x);
     }
 }
 
@@ -126,14 +119,11 @@ fn write_bytes(out: &mut [u8], at: usize, s: &[u8], behind: u8) -> usize
 pub fn put_bytes(out: &mut [u8], at: usize, s: &[u8], behind: u8) -> usize
     ensures { Writes (bytes_text s.now behind) (length (bytes_text s.now behind)) at out.old result out.new }
 {
-    if s.len() == 0 {
-        let none = [DASH, behind];
-        return put_text(out, at, &none);
+    if s.is_empty() {
+        put_text(out, at, &[DASH, behind])
+    } else if has_room(out.len(), at, 2 * s.len() + 1) {
+        write_bytes(out, at, s, behind)
+    } else {
+        at
     }
-    let size = 2 * s.len() + 1;
-    let room = has_room(out.len(), at, size);
-    if !room {
-        return at;
-    }
-    write_bytes(out, at, s, behind)
 }

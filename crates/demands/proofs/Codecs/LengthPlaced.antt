@@ -11,7 +11,7 @@ use Rattle.keys.specs.declared.Form.TheVariants.{Plain, Physical, Functional, Fo
 use Rattle.frame.specs.Layout.{form_numbered, top_bits, format_form, address_count}
 use Rattle.frame.specs.Build.{Builds}
 use Rattle.frame.specs.declared.Plan.{Plan}
-use Rattle.frame.specs.declared.Built.{Built}
+use Rattle.frame.specs.Answers.{Built}
 use Rattle.frame.proofs.Starts.{low_back}
 use Rattle.frame.proofs.Placing.{InFormat, InExtra, LengthAt, built_length_at}
 use Rattle.demands.specs.Frames.{addresses_in, low_six, InFormatByte, InExtraByte, LengthPlaced}
@@ -46,9 +46,9 @@ length_placed choice kb1 n form frame w = record {
 
 -- WHAT IS BUILT HAS ITS LENGTH IN THE PLACE CHOSEN; under the choice 0 in the format byte wherever it may stand there, and otherwise in the extra byte.
 pub built_placed : (p : Plan) (bytes out : List ℕ) (r : Built) (after : List ℕ) → Builds p bytes out r after → r.no ≡ taken
-    → LengthPlaced p.choice p.kb1 (length bytes) (take r.len after)
+    → LengthPlaced p.choice p.pair.kb1 (length bytes) (take r.len after)
 built_placed p bytes out r after b e =
-    length_placed p.choice p.kb1 (length bytes) (form_numbered p.form) (take r.len after) (built_length_at p bytes out r after b e)
+    length_placed p.choice p.pair.kb1 (length bytes) (form_numbered p.form) (take r.len after) (built_length_at p bytes out r after b e)
 
 -- A BUILDER THAT USES THE EXTRA BYTE, where the frame is to be shortest, for a length that may stand in the format byte is shut out: by two data bytes
 -- under EF.

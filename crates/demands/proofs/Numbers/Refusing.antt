@@ -14,24 +14,22 @@ use Rattle.std.specs.Prelude.{if◌then◌else◌}
 use Rattle.base.specs.Numbers.{taken, bad_keys, bad_form, bad_length, bad_checksum}
 use Rattle.units.specs.Units.{is_earlier}
 use Rattle.units.specs.declared.Micros.{Micros}
-use Rattle.keys.specs.Keys.{good_pair, takes_form, length_in_format, extra_length, no_addresses, with_addresses, is_extended}
+use Rattle.keys.specs.Keys.{good_pair, pair_of, takes_form, length_in_format, extra_length, no_addresses, with_addresses, is_extended}
 use Rattle.keys.specs.declared.Form.{Form}
 use Rattle.keys.specs.declared.Form.TheVariants.{Plain, Physical, Functional, Foreign}
+use Rattle.timing.specs.Answers.{Decoded, Encoded}
 use Rattle.timing.specs.Timing.{is_unlimited, is_below, p4max, is_allowed, windows_by, not_decoded, decoded_of}
 use Rattle.timing.specs.Timing.{codes_by, same_windows, not_encoded, encoded_of}
 use Rattle.timing.specs.declared.Limit.{Limit}
 use Rattle.timing.specs.declared.Windows.{Windows}
 use Rattle.timing.specs.declared.Codes.{Codes}
-use Rattle.timing.specs.declared.Decoded.{Decoded}
-use Rattle.timing.specs.declared.Encoded.{Encoded}
 use Rattle.timing.specs.Coded.{HasCodes}
 use Rattle.timing.proofs.RoundTrip.{codes_exactly, no_codes}
 use Rattle.frame.specs.Layout.{form_numbered, format_form, address_count, extra_count, head_size, total, checksum_of, is_nowhere}
 use Rattle.frame.specs.Build.{place_for, only_in, place_chosen, place_in, planned, size_of, build_no, built_of, buffer_after, Builds}
 use Rattle.frame.specs.Read.{format_byte, place_read, length_read, length_of, not_laid, laid_of, not_read, judged, read_of}
 use Rattle.frame.specs.declared.Plan.{Plan}
-use Rattle.frame.specs.declared.Built.{Built}
-use Rattle.frame.specs.declared.Reading.{Reading}
+use Rattle.frame.specs.Answers.{Built, Reading}
 use Rattle.frame.proofs.Sizes.{frame_length}
 use Rattle.frame.proofs.RoundTrip.{built_no}
 use Rattle.demands.specs.Refusals.{Not}
@@ -173,8 +171,8 @@ unfolding form_numbered
 decides_form kb1 n = form_by kb1 n (eqb n 0) (eqb n 1) (eqb n 2) refl refl refl
 
 -- 6, also by the choice: two tests one after another with one number are one
-decides_plan : (p : Plan) → Decides (ltb 2 p.choice || not (takes_form p.kb1 (form_numbered p.form))) (BadPlan p)
-decides_plan p = either_of (ltb 2 p.choice) _ (decides_lt 2 p.choice) (λ _. decides_form p.kb1 p.form)
+decides_plan : (p : Plan) → Decides (ltb 2 p.choice || not (takes_form p.pair.kb1 (form_numbered p.form))) (BadPlan p)
+decides_plan p = either_of (ltb 2 p.choice) _ (decides_lt 2 p.choice) (λ _. decides_form p.pair.kb1 p.form)
 
 as_one : (a b : Bool) (k other : ℕ) → (if a || b then k else other) ≡ (if a then k else if b then k else other)
 as_one true b k other = refl
@@ -222,18 +220,18 @@ module _ {A : Type 0} (nowhere : A → Bool) (other : A) (eo : nowhere other ≡
 decides_length : (p : Plan) (n : ℕ) → Decides (is_nowhere (place_in p n)) (BadLength p n)
 unfolding place_chosen place_for only_in is_nowhere
 decides_length p n =
-    let format = three (length_in_format p.kb1) (leb 1 n) (leb n 63) (decides_true (length_in_format p.kb1)) (decides_le 1 n) (decides_le n 63) in
-    let extra = three (extra_length p.kb1) (leb 1 n) (leb n 255) (decides_true (extra_length p.kb1)) (decides_le 1 n) (decides_le n 255) in
-    choice_by is_nowhere _ refl _ _ _ p.choice p.kb1 n (eqb p.choice 0) (eqb p.choice 1) (eqb p.choice 2) refl refl refl
-    (length_by is_nowhere _ refl _ _ refl refl p.kb1 n _ _ format extra) (only_by is_nowhere _ refl _ refl _ format) (only_by is_nowhere _ refl _ refl _ extra)
+    let format = three (length_in_format p.pair.kb1) (leb 1 n) (leb n 63) (decides_true (length_in_format p.pair.kb1)) (decides_le 1 n) (decides_le n 63) in
+    let extra = three (extra_length p.pair.kb1) (leb 1 n) (leb n 255) (decides_true (extra_length p.pair.kb1)) (decides_le 1 n) (decides_le n 255) in
+    choice_by is_nowhere _ refl _ _ _ p.choice p.pair.kb1 n (eqb p.choice 0) (eqb p.choice 1) (eqb p.choice 2) refl refl refl
+    (length_by is_nowhere _ refl _ _ refl refl p.pair.kb1 n _ _ format extra) (only_by is_nowhere _ refl _ refl _ format) (only_by is_nowhere _ refl _ refl _ extra)
 
 build_no_numbered : (p : Plan) (n room : ℕ) → BuildNumbered p n room (build_no p n room)
 unfolding build_no
 build_no_numbered p n room =
-    let keys = not (good_pair p.kb1 p.kb2) in
-    let form = not (takes_form p.kb1 (form_numbered p.form)) in
+    let keys = not (good_pair p.pair.kb1 p.pair.kb2) in
+    let form = not (takes_form p.pair.kb1 (form_numbered p.form)) in
     let c =
-    chosen 8 (omega arith) keys (ltb 2 p.choice || form) (is_nowhere (place_in p n)) (ltb room (size_of p n)) (decides_false (good_pair p.kb1 p.kb2))
+    chosen 8 (omega arith) keys (ltb 2 p.choice || form) (is_nowhere (place_in p n)) (ltb room (size_of p n)) (decides_false (good_pair p.pair.kb1 p.pair.kb2))
     (decides_plan p) (decides_length p n) (λ _. decides_lt room (size_of p n)) in
     subst (BuildNumbered p n room) (ap (λ (k : ℕ). if keys then 5 else k) (as_one (ltb 2 p.choice) form 6 _))
     (record {
@@ -264,7 +262,7 @@ frame_size p bytes = frame_length (form_numbered p.form) (place_in p (length byt
 -- A BUILDER THAT JUDGES ROOM BY THE SHORTEST FRAME is shut out: by two data bytes in form 1 under EF 8F, which by choice 2 are a frame of seven bytes, and a
 -- buffer of six.
 pub short_room_shut : (target source k : ℕ) → k ≡ 0
-    → BuildNumbered (record { choice = 2; kb1 = 0xEF; kb2 = 0x8F; form = 1; target = target; source = source }) 2 6 k → ⊥
+    → BuildNumbered (record { choice = 2; pair = pair_of 0xEF 0x8F; form = 1; target = target; source = source }) 2 6 k → ⊥
 unfolding size_of place_chosen only_in head_size address_count extra_count form_numbered extra_length
 short_room_shut target source k e b = let r = b.built.0 e in r.3 (omega arith)
 

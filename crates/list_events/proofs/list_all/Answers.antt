@@ -1,7 +1,7 @@
 -- One read after another. Assumes nothing.
 use Rattle.std.proofs.Common.{◌≡◌, refl, ◌∙◌, arith}
 use Rattle.std.proofs.lemmas.Result.{on_ok_weaker}
-use Rattle.list_events.proofs.Laws.{all_listed, going_first, going_on, going_end}
+use Rattle.list_events.proofs.Laws.{going_first, going_on, going_end}
 use Rattle.list_events.proofs.list_all.Goals as goal
 
 pub loop-init : goal.loop-init
@@ -15,11 +15,11 @@ returns-then-n-eq0 g c =
 pub loop-preserved : goal.loop-preserved
 loop-preserved g c =
     record {
-      room = c.list-r.auto.out ∙ c.loop.invariant.room;
+      room = c.list.auto.out ∙ c.loop.invariant.room;
       going = λ h.
           let k = c.loop.invariant.going h in
           let n : c.min-n.result ≡ c.loop.got = omega (arith, k.last.within, c.min-n.ensures) in
-          let sent = rw n at (rw c.in_ok-r.was at c.list-r.ensures.sent) in
-          let lister = rw n at (all_listed _ _ _ _ c.in_ok-r.was c.list-r.ensures.listed) in
+          let sent = rw n at c.in_ok-l.ensures.sent in
+          let lister = rw n at c.in_ok-l.ensures.listed in
           going_on _ _ _ _ _ _ _ _ _ _ _ _ k sent lister c.in_ok-got.ensures.gave (c.in_ok-got.ensures.read k.last.room);
     }

@@ -6,5 +6,5 @@ use Rattle.listing.proofs.end_line.Goals as goal
 pub returns-then-is_empty : goal.returns-then-is_empty
 returns-then-is_empty c = ended_none _ _ (sym c.is_empty.ensures ∙ c.if-is_empty.true)
 
-pub returns : goal.returns
-returns c = ended_line _ _ _ _ (search rules) (sym c.is_empty.ensures ∙ c.if-is_empty.false) c.list_part.ensures
+pub returns-else-is_empty : goal.returns-else-is_empty
+returns-else-is_empty c = ended_line _ _ _ _ (search rules) (sym c.is_empty.ensures ∙ c.if-is_empty.false) c.list_part.ensures

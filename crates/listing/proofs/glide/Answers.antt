@@ -1,21 +1,19 @@
 -- The lines of bytes that go on with the message held. Assumes nothing.
-use Rattle.std.proofs.Common.{◌∙◌, sym, arith}
-use Rattle.listing.proofs.Laws.{gliding_start, gliding_on, run_ahead}
+use Rattle.std.proofs.Common.{◌∙◌, refl, sym, arith}
+use Rattle.listing.proofs.Laws.{gliding_start, gliding_on, row_within, run_ahead}
 use Rattle.listing.proofs.glide.Goals as goal
 
-pub loop-at-init : goal.loop-at-init
-loop-at-init c = gliding_start _ _ _ _
+pub loop-row-init : goal.loop-row-init
+loop-row-init c = (gliding_start _ _ _ _, refl)
 
-pub loop-at-smaller : goal.loop-at-smaller
-loop-at-smaller c =
-    omega (
-      arith,
-      c.loop-at-test.true,
-      run_ahead _ c.loop-at.at _ c.byte_line-q.ensures c.if-q-eq0.false c.loop-at-test.true,
-    )
+pub loop-row-smaller : goal.loop-row-smaller
+loop-row-smaller c =
+    let f = sym c.byte_line.ensures ∙ c.in-Some.is in
+    omega (arith, row_within _ _ _ f, run_ahead _ _ _ f)
 
-pub loop-at-preserved : goal.loop-at-preserved
-loop-at-preserved c =
-    rw (c.count_byte-y.ensures, c.run_on-x.ensures)
-    (gliding_on _ _ _ _ c.loop-at.x c.loop-at.y c.loop-at.at _ c.byte_line-q.ensures c.if-q-eq0.false
-    (sym c.runs_on.ensures ∙ c.if-not-runs_on.false) c.loop-at-test.true c.loop-at.invariant)
+pub loop-row-preserved : goal.loop-row-preserved
+loop-row-preserved c =
+    let y = c.loop-row.y in
+    let i = c.loop-row.invariant in
+    rw (c.count_byte-y.ensures, c.run_on-y.ensures)
+    (gliding_on _ _ _ _ y.link y.counts y.at _ (sym c.byte_line.ensures ∙ c.in-Some.is) (sym c.runs_on.ensures ∙ c.if-not-runs_on.false) i.0, i.1)

@@ -1,20 +1,13 @@
 -- A part of the input. Assumes nothing.
-use Rattle.std.proofs.Common.{◌-◌, length, refl, arith}
-use Rattle.listing.specs.Parts.{answer_most}
-use Rattle.listing.proofs.Laws.{going_start, going_on, going_end, part_none, tests}
+use Rattle.std.proofs.Common.{length, arith}
+use Rattle.listing.proofs.Laws.{going_on, going_end, tests}
 use Rattle.listing.proofs.list_part.Goals as goal
 
-pub returns-then-out-lt-ANSWER_MOST : goal.returns-then-out-lt-ANSWER_MOST
-returns-then-out-lt-ANSWER_MOST c = part_none _ _ _ c.if-out-lt-ANSWER_MOST.true
-
-pub loop-at-init : goal.loop-at-init
-loop-at-init c = going_start _ _ _ _
-
-pub loop-at-preserved : goal.loop-at-preserved
-loop-at-preserved c =
-    let a = c.args in
-    let t = tests c.loop-at.at (length a.s.now) c.loop-at.put (length a.out.now - answer_most) c.loop-at-test.true in
-    going_on _ _ _ _ _ _ _ _ _ _ (omega (arith, c.if-out-lt-ANSWER_MOST.false)) t.1 c.loop-at.invariant c.turn-t.ensures
+pub loop-part-preserved : goal.loop-part-preserved
+loop-part-preserved c =
+    let l = c.loop-part in
+    let t = tests l.part.at (length c.args.s.now) l.part.put c.in-Some.room c.loop-part-test.true in
+    going_on _ _ _ _ _ _ _ _ _ _ (omega (arith, c.in-Some.ensures)) t.1 l.invariant c.turn-part.ensures
 
 pub returns : goal.returns
-returns c = going_end _ _ _ _ _ _ _ _ c.if-out-lt-ANSWER_MOST.false refl c.loop-at-test.false c.loop-at.invariant
+returns c = going_end _ _ _ _ _ _ _ _ c.in-Some.ensures.0 c.in-Some.ensures.1 c.loop-part-test.false c.loop-part.invariant

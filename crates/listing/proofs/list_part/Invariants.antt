@@ -4,8 +4,8 @@ use Rattle.std.proofs.Common.{◌-◌, length}
 use Rattle.listing.proofs.Laws.{Going}
 use Rattle.listing.proofs.list_part.Given as goal
 
-abbrev pub invariant-loop-at : goal.invariant-loop-at
-invariant-loop-at l = Going l.initial.x l.s l.initial.out l.room l.x l.at l.put l.out
+abbrev pub invariant-loop-part : goal.invariant-loop-part
+invariant-loop-part l = Going l.initial.part.lister l.s l.initial.out l.room l.part.lister l.part.at l.part.put l.out
 
-abbrev pub decreases-loop-at : goal.decreases-loop-at
-decreases-loop-at l = length l.s - l.at
+abbrev pub decreases-loop-part : goal.decreases-loop-part
+decreases-loop-part l = length l.s - l.part.at

@@ -6,5 +6,5 @@ use Rattle.listing.proofs.stretch_from.Goals as goal
 pub returns-then-is_empty : goal.returns-then-is_empty
 returns-then-is_empty c = stretched_glide _ _ _ _ (sym c.is_empty.ensures ∙ c.if-is_empty.true) c.glide.ensures
 
-pub returns : goal.returns
-returns c = stretched_none _ _ _ _ c.no_row.ensures
+pub returns-else-is_empty : goal.returns-else-is_empty
+returns-else-is_empty c = stretched_none _ _ _

@@ -1,44 +1,41 @@
 -- What `build` leaves: a refusal touches nothing, and otherwise `write` has put the frame there. Assumes nothing.
-use Rattle.std.proofs.Common.{◌≡◌, ℕ, ◌+◌, List, length, ap, ◌∙◌, eq-eqb}
+use Rattle.std.proofs.Common.{◌≡◌, ℕ, ◌+◌, List, length, rules, Some, Ok, Err}
 use borrow.Author.Tests.{ne_eqb}
 use Rattle.base.specs.Numbers.{taken}
-use Rattle.keys.specs.declared.Form.{Form}
+use Rattle.base.specs.Refusals.{number_of, no_of}
+use Rattle.base.specs.declared.Refusal.{Refusal}
 use Rattle.frame.specs.Layout.{form_numbered, head_size, frame_of}
-use Rattle.frame.specs.Build.{place_in, planned, size_of, build_no, not_built, built_of, over, buffer_after, Builds}
+use Rattle.frame.specs.Build.{place_in, planned, size_of, build_no, built_as, built_of, over, buffer_after, Builds}
 use Rattle.frame.specs.declared.Place.{Place}
 use Rattle.frame.specs.declared.Plan.{Plan}
 use Rattle.frame.proofs.Announced.{writable}
+use Rattle.frame.proofs.Answered.{not_taken}
 use Rattle.frame.proofs.builder.build.Goals as goal
 
--- what was written is the frame that is planned
-planned_is : (p : Plan) (bytes : List ℕ) (form : Form) (place : Place) → form ≡ form_numbered p.form → place ≡ place_in p (length bytes)
-    → frame_of form place p.target p.source bytes ≡ planned p bytes
-unfolding planned
-planned_is p bytes form place ef ep = λ i. frame_of (ef i) (ep i) p.target p.source bytes
-
--- its two returns, where the number is k
-module _ (p : Plan) (bytes out : List ℕ) (k : ℕ) (ek : k ≡ build_no p (length bytes) (length out)) where
-  builds_refused : (k ≡ taken → ⊥) → Builds p bytes out (not_built k) out
+module _ (p : Plan) (bytes out : List ℕ) where
+  refused : (why : Refusal) → number_of why ≡ build_no p (length bytes) (length out) → Builds p bytes out (built_as (Err why)) out
   unfolding built_of buffer_after
-  builds_refused h = record { answer = rw (← ek, ne_eqb k 0 h); memory = rw (← ek, ne_eqb k 0 h) }
+  refused why e = record { answer = rw (← e, ne_eqb (number_of why) 0 (not_taken why)); memory = rw (← e, ne_eqb (number_of why) 0 (not_taken why)) }
 
-  builds_done : (form : Form) (place : Place) (len : ℕ) (after : List ℕ) → k ≡ taken → form ≡ form_numbered p.form
-      → place ≡ place_in p (length bytes) → len ≡ head_size form place + length bytes + 1
-      → after ≡ over (frame_of form place p.target p.source bytes) out → Builds p bytes out (record { no = taken; len = len }) after
-  unfolding built_of buffer_after size_of
-  builds_done form place len after e ef ep el em = record {
-    answer = rw (← ek, eq-eqb k 0 e, ← ef, ← ep, el);
-    memory = em ∙ ap (λ (f : List ℕ). over f out) (planned_is p bytes form place ef ep) ∙ rw (← ek, eq-eqb k 0 e);
-  }
+  done : (place : Place) (len : ℕ) (after : List ℕ) → taken ≡ build_no p (length bytes) (length out) → place_in p (length bytes) ≡ Some place
+      → len ≡ head_size (form_numbered p.form) (Some place) + length bytes + 1
+      → after ≡ over (frame_of (form_numbered p.form) (Some place) p.target p.source bytes) out → Builds p bytes out (built_as (Ok len)) after
+  unfolding built_of buffer_after size_of planned
+  done place len after e ep el em = record { answer = rw (← e, ep, el); memory = rw (← e, ep, em) }
 
-pub returns-then-no-ne-TAKEN : goal.returns-then-no-ne-TAKEN
-returns-then-no-ne-TAKEN c = builds_refused _ _ _ _ c.build_no-no.ensures c.if-no-ne-TAKEN.true
+pub returns-in_err-place : goal.returns-in_err-place
+unfolding no_of
+returns-in_err-place c =
+    let why = c.in_err-place.field-0.0 in
+    let same : c.from_residual.result ≡ Err why = search rules in
+    rw same (refused c.args.p c.args.bytes.now c.args.out.now why c.in_err-place.ensures.number)
 
-pub write-len-requires : goal.write-len-requires
-write-len-requires c =
-    writable c.args.p _ _ _ _ _ c.build_no-no.ensures c.if-no-ne-TAKEN.false c.form_numbered-form.ensures c.place_in-place.ensures
+pub write-requires : goal.write-requires
+unfolding no_of
+write-requires c = rw c.form_numbered.ensures (writable c.args.p _ _ c.in_ok-place.place c.in_ok-place.ensures.number c.in_ok-place.ensures.place)
 
 pub returns : goal.returns
+unfolding no_of
 returns c =
-    builds_done _ _ _ _ c.build_no-no.ensures _ _ _ _ c.if-no-ne-TAKEN.false c.form_numbered-form.ensures c.place_in-place.ensures
-    c.write-len.ensures.0 c.write-len.ensures.1
+    let written = rw c.form_numbered.ensures at c.write.ensures in
+    done c.args.p _ _ c.in_ok-place.place _ _ c.in_ok-place.ensures.number c.in_ok-place.ensures.place written.0 written.1

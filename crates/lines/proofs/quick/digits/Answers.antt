@@ -1,20 +1,20 @@
 -- `lines::quick::digits`: the number has room for one digit more, and a turn takes one. Assumes nothing.
-use Rattle.std.proofs.Common.{sym, ◌∙◌, arith}
-use Rattle.lines.proofs.Laws.{below, more, digits_on, low_digit}
+use Rattle.std.proofs.Common.{◌≡◌, ◌+◌, ◌-◌, sym, ◌∙◌, arith}
+use Rattle.lines.proofs.Laws.{low, next, low_digit, digits_on}
 use Rattle.lines.proofs.quick.digits.Goals as goal
 
-pub overflow_mul-v : goal.overflow_mul-v
-overflow_mul-v c = omega (arith, below c.loop-n.n c.loop-n.v c.loop-n-test.true c.loop-n.invariant.1 c.loop-n.invariant.2)
+pub overflow_mul-value : goal.overflow_mul-value
+overflow_mul-value c = omega (arith, low c.loop-i.value c.loop-i.i (omega (arith, c.loop-i-test.true)) c.loop-i.invariant.0)
 
-pub overflow_add-v : goal.overflow_add-v
-overflow_add-v c = omega (arith, below c.loop-n.n c.loop-n.v c.loop-n-test.true c.loop-n.invariant.1 c.loop-n.invariant.2)
+pub overflow_add-value : goal.overflow_add-value
+overflow_add-value c = omega (arith, low c.loop-i.value c.loop-i.i (omega (arith, c.loop-i-test.true)) c.loop-i.invariant.0)
 
-pub loop-n-preserved : goal.loop-n-preserved
-loop-n-preserved c =
-    let l = c.loop-n in
-    let d = low_digit _ _ _ c.wide.ensures c.wrapping_sub_u64-d.ensures.value c.if-d-gt9.false in (
-      omega (arith, l.invariant.0),
-      omega arith,
-      more l.n l.v _ c.loop-n-test.true l.invariant.1 l.invariant.2 c.if-d-gt9.false,
-      rw d.1 (sym (digits_on _ l.n l.i l.v c.loop-n-test.true d.0)) ∙ l.invariant.3,
+pub loop-i-preserved : goal.loop-i-preserved
+loop-i-preserved c =
+    let l = c.loop-i in
+    let d = low_digit _ _ c.from-d.ensures (omega (arith, c.type_inv.s (c.args.at + l.i))) c.if-d-gt9.false in
+    let place : c.args.at + (l.i + 1) ≡ c.args.at + l.i + 1 = omega arith in
+    let left : 13 - (l.i + 1) ≡ 13 - l.i - 1 = omega arith in (
+      next l.value l.i _ l.invariant.0 c.if-d-gt9.false,
+      rw (place, left, d.1) (sym (digits_on _ (13 - l.i) (c.args.at + l.i) l.value (omega (arith, c.loop-i-test.true)) d.0)) ∙ l.invariant.1,
     )

@@ -1,39 +1,21 @@
--- `reports::counting::count_all` meets its contract: at each return, as many reports are counted as there are. Assumes nothing.
-use Rattle.std.proofs.Common.{arith}
+-- `reports::counting::count_all` meets its contract: at a place that holds a report by the law of `Places`, and behind them nothing is left. Assumes nothing.
+use Rattle.std.proofs.Common.{◌+◌, ◌∙◌, sym, arith}
 use Rattle.reports.specs.Counting.{counted_all}
-use Rattle.reports.proofs.Places.{listed_first, listed_all}
+use Rattle.reports.proofs.Places.{left_more, left_none, left_past}
+use Rattle.reports.proofs.counting.count_all.Goals.{then-i-rs, else-i-rs}
 use Rattle.reports.proofs.counting.count_all.Goals as goal
 
-pub returns-then-rs-eq0 : goal.returns-then-rs-eq0
+pub loop-i-preserved : goal.loop-i-preserved
 unfolding counted_all
-returns-then-rs-eq0 c = rw (listed_first c.args.rs 0 c.if-rs-eq0.true)
-
-pub returns-then-rs-eq1 : goal.returns-then-rs-eq1
-unfolding counted_all
-returns-then-rs-eq1 c = rw (listed_first c.args.rs 1 c.if-rs-eq1.true, c.count_one.ensures)
-
-pub returns-then-rs-eq2 : goal.returns-then-rs-eq2
-unfolding counted_all
-returns-then-rs-eq2 c =
-    rw (listed_first c.args.rs 2 c.if-rs-eq2.true, c.count_one-then-rs-eq2-2.ensures, c.count_one-then-rs-eq2.ensures)
-
-pub returns-then-rs-eq3 : goal.returns-then-rs-eq3
-unfolding counted_all
-returns-then-rs-eq3 c =
-    rw (
-      listed_first c.args.rs 3 c.if-rs-eq3.true,
-      c.count_one-then-rs-eq3-3.ensures,
-      c.count_one-then-rs-eq3-2.ensures,
-      c.count_one-then-rs-eq3.ensures,
-    )
+loop-i-preserved c = elim c.if-i-rs.branch [
+  | then-i-rs w ↦
+      rw (w.counts-is, w.count_one-counts.ensures)
+      (sym (left_more (counted_all c.loop-i.counts) c.args.rs c.loop-i.i _ w.if-i-rs.true c.loop-i-test.true) ∙ c.loop-i.invariant)
+  | else-i-rs w ↦
+      rw (w.counts-is, left_none c.args.rs (c.loop-i.i + 1) (omega arith))
+      (rw (left_none c.args.rs c.loop-i.i w.if-i-rs.false) at c.loop-i.invariant)
+]
 
 pub returns : goal.returns
 unfolding counted_all
-returns c =
-    rw (
-      listed_all c.args.rs (omega arith),
-      c.count_one-5.ensures,
-      c.count_one-4.ensures,
-      c.count_one-3.ensures,
-      c.count_one-2.ensures,
-    )
+returns c = rw (left_past c.args.rs c.loop-i.i c.loop-i-test.false) at c.loop-i.invariant

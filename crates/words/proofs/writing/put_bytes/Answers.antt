@@ -1,17 +1,17 @@
--- `words::writing::put_bytes`: of no bytes `put_text` has put the dash there; otherwise, where there is no room nothing is written, and where there is
--- `write_bytes` has written them. Assumes nothing.
-use Rattle.std.proofs.Common.{ap, not}
-use Rattle.words.proofs.Written.{puts_writes, room_there, no_room}
+-- `words::writing::put_bytes`: of no bytes `put_text` has put the dash there; otherwise, where there is room `write_bytes` has written them, and where
+-- there is not nothing is written. Assumes nothing.
+use Rattle.std.proofs.Common.{sym}
+use borrow.Author.Tests.{leb-true}
 use Rattle.words.proofs.Pairs.{some_bytes, no_bytes}
+use Rattle.words.proofs.Written.{puts_writes, no_room}
 use Rattle.words.proofs.writing.put_bytes.Goals as goal
 
-pub returns-then-s-eq0 : goal.returns-then-s-eq0
-returns-then-s-eq0 c = no_bytes _ _ _ _ _ _ c.if-s-eq0.true c.put_text.ensures
+pub returns-then-is_empty : goal.returns-then-is_empty
+returns-then-is_empty c = no_bytes _ _ _ _ _ _ (sym c.if-is_empty.ensures) c.put_text.ensures
 
-pub returns-then-not-room : goal.returns-then-not-room
-returns-then-not-room c = some_bytes _ _ _ _ _ _ c.if-s-eq0.false (no_room _ _ _ _ _ c.has_room-room.ensures (ap not c.if-not-room.true))
+pub returns-then-has_room : goal.returns-then-has_room
+returns-then-has_room c =
+    some_bytes _ _ _ _ _ _ (sym c.if-is_empty.ensures) (puts_writes _ _ _ _ _ _ (leb-true _ _ (sym c.if-has_room.ensures)) c.write_bytes.ensures)
 
-pub returns : goal.returns
-returns c =
-    some_bytes _ _ _ _ _ _ c.if-s-eq0.false
-    (puts_writes _ _ _ _ _ _ (room_there _ _ _ _ c.has_room-room.ensures (ap not c.if-not-room.false)) c.write_bytes.ensures)
+pub returns-else-has_room : goal.returns-else-has_room
+returns-else-has_room c = some_bytes _ _ _ _ _ _ (sym c.if-is_empty.ensures) (no_room _ _ _ _ (sym c.if-has_room.ensures))

@@ -1,10 +1,7 @@
 -- `words::writing::write_hex`: each turn writes the two digits of a byte after those before it. Assumes nothing.
-use Rattle.std.proofs.Common.{length, take, ◌-◌, ◌≡◌, ◌≤◌}
+use Rattle.std.proofs.Common.{take, ◌≡◌}
 use Rattle.words.specs.Writing.{hex_text, put}
 use Rattle.words.proofs.writing.write_hex.Given as goal
 
 abbrev pub invariant-loop-i : goal.invariant-loop-i
-invariant-loop-i l = (l.i ≤ length l.s) × (l.out ≡ put l.at (hex_text (take l.i l.s)) l.fn.out)
-
-abbrev pub decreases-loop-i : goal.decreases-loop-i
-decreases-loop-i l = length l.s - l.i
+invariant-loop-i l = l.out ≡ put l.at (hex_text (take l.i l.s)) l.fn.out
