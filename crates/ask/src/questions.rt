@@ -2,6 +2,7 @@
 // writes the answer; `None` where a word is not there, and so there is no question. One more question
 // is a function like these, and a line of `ask`.
 use crate::lent;
+use base::Refusal;
 use keys::Pair;
 use timing::{Codes, Limit, Windows};
 use units::Micros;
@@ -50,7 +51,7 @@ fn ask_good(s: &[u8], from: usize, out: &mut [u8], at: usize) -> Option<usize> {
     let no = if pair.value.is_good() {
         base::TAKEN
     } else {
-        base::BAD_KEYS
+        Refusal::BadKeys.into()
     };
     Some(put_no(out, at, no))
 }
@@ -240,7 +241,7 @@ fn ask_set(s: &[u8], from: usize, out: &mut [u8], at: usize) -> Option<usize> {
     let pair = read_pair(s, from)?;
     end(s, pair.to)?;
     if !pair.value.is_good() {
-        return Some(put_no(out, at, base::BAD_KEYS));
+        return Some(put_no(out, at, Refusal::BadKeys.into()));
     }
     Some(put_windows(out, at, timing::set_of(pair.value)))
 }

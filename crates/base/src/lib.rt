@@ -1,5 +1,5 @@
-// The numbers that a caller may get back, by name (`specs/Numbers.antt` has the same table for the
-// definitions), and sums and choices that several crates use.
+// What a caller may get back: refusals, and the reasons and numbers of reports (`specs/Numbers.antt` and `specs/Reports.antt` have
+// their numbers for the definitions); sums and choices that several crates use.
 #![tactic(auto)]
 
 ghost use Rattle.std.specs.Prelude.{◌≡◌, if◌then◌else◌};
@@ -34,27 +34,8 @@ impl From<Refusal> for u8 {
     }
 }
 
+// The number of what is not refused.
 pub const TAKEN: u8 = 0;
-
-pub const UNKNOWN: u8 = 1;
-
-pub const TOO_LATE: u8 = 2;
-
-pub const OUT_OF_ORDER: u8 = 3;
-
-pub const TOO_MANY: u8 = 4;
-
-pub const BAD_KEYS: u8 = 5;
-
-pub const BAD_FORM: u8 = 6;
-
-pub const BAD_LENGTH: u8 = 7;
-
-pub const NO_ROOM: u8 = 8;
-
-pub const BAD_CHECKSUM: u8 = 9;
-
-pub const BAD_TIMING: u8 = 10;
 
 // One value or another.
 pub fn either<T: Copy>(first: bool, a: T, b: T) -> T

@@ -1,43 +1,73 @@
-// The reasons of reports, by name: `specs/Reports.antt` has the same for the definitions, and says what
-// each means.
+// The reasons of reports. Each has the paper's number, which is what a report says: `specs/Reports.antt` has the numbers and
+// what each means, `specs/Reasons.antt` and `specs/Failures.antt` which is whose.
+ghost use Rattle.std.specs.Prelude.{◌≡◌};
 
+// Where none is named. Messages and reports hold a number, of a reason or this one.
 pub const NONE: u8 = 0;
 
-// Of damage, and `CLOSED` of a failed initialization too.
-pub const BROKEN_OFF: u8 = 1;
+// Why what came is damage.
+#[derive(Clone, Copy, Debug, PartialEq, Eq)]
+pub enum Damage {
+    BrokenOff = 1,
+    Closed,
+    Early,
+    Stray,
+    ModeOne,
+    WrongForm,
+    OtherSide,
+    WrongLength,
+    WrongSum,
+}
 
-pub const CLOSED: u8 = 2;
+impl From<Damage> for u8 {
+    ghost use Rattle.base.specs.Reasons.{damage_number};
 
-pub const EARLY: u8 = 3;
+    ghost from_gives = { λ why n. n ≡ damage_number why };
 
-pub const STRAY: u8 = 4;
+    #[tactic(auto, unfolding(crate::specs::Reasons::damage_number))]
+    fn from(why: Damage) -> u8 {
+        why as u8
+    }
+}
 
-pub const MODE_ONE: u8 = 5;
+// Why an initialization fails.
+#[derive(Clone, Copy, Debug, PartialEq, Eq)]
+pub enum Failure {
+    WindowOver = 1,
+    Closed,
+    WrongLow,
+    WrongSide,
+    TooEarly,
+    Misfit,
+}
 
-pub const WRONG_FORM: u8 = 6;
+impl From<Failure> for u8 {
+    ghost use Rattle.base.specs.Failures.{failure_number};
 
-pub const OTHER_SIDE: u8 = 7;
+    ghost from_gives = { λ why n. n ≡ failure_number why };
 
-pub const WRONG_LENGTH: u8 = 8;
+    #[tactic(auto, unfolding(crate::specs::Failures::failure_number))]
+    fn from(why: Failure) -> u8 {
+        why as u8
+    }
+}
 
-pub const WRONG_SUM: u8 = 9;
+// Why a connected link goes down.
+#[derive(Clone, Copy, Debug, PartialEq, Eq)]
+pub enum Down {
+    Stopped = 1,
+    IdleOver,
+    Dropped,
+    Restarted,
+}
 
-// Of a failed initialization.
-pub const WINDOW_OVER: u8 = 1;
+impl From<Down> for u8 {
+    ghost use Rattle.base.specs.Reasons.{down_number};
 
-pub const WRONG_LOW: u8 = 3;
+    ghost from_gives = { λ why n. n ≡ down_number why };
 
-pub const WRONG_SIDE: u8 = 4;
-
-pub const TOO_EARLY: u8 = 5;
-
-pub const MISFIT: u8 = 6;
-
-// Of down.
-pub const STOPPED: u8 = 1;
-
-pub const IDLE_OVER: u8 = 2;
-
-pub const DROPPED: u8 = 3;
-
-pub const RESTARTED: u8 = 4;
+    #[tactic(auto, unfolding(crate::specs::Reasons::down_number))]
+    fn from(why: Down) -> u8 {
+        why as u8
+    }
+}

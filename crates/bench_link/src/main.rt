@@ -60,9 +60,11 @@ impl Session {
         }
     }
 
-    // One event more.
+    // One event more. One that is refused has no reports.
     fn hear(&mut self, rt: &impl Print, e: Event) -> io::Result<()> {
-        let stepped = link::step(self.link, self.counts, e);
+        let Ok(stepped) = link::step(self.link, self.counts, e) else {
+            return Ok(());
+        };
         *self = Session {
             link: stepped.answer.link,
             counts: stepped.counts,

@@ -5,7 +5,7 @@ use Rattle.events.specs.declared.Event.{Event}
 use Rattle.link.specs.Stepping.{step_of}
 use Rattle.link.specs.declared.Link.{Link}
 use Rattle.reports.specs.declared.Counts.{Counts}
-use Rattle.link.specs.declared.Answer.{Answer}
+use Rattle.link.specs.Answers.{Answer}
 
 -- what a step with lent counts promises: its answer, and all seven counts as they stand afterwards, are those of a step on values
 pub record Steps (l : Link) (c : Counts) (e : Event) (r : Answer) (after : Counts) : Type 0 where

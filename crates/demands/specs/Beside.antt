@@ -15,7 +15,7 @@ use Rattle.phases.specs.declared.State.TheVariants.{Down, Quiet}
 use Rattle.reports.specs.Reporting.{places, no_reports, listed}
 use Rattle.events.specs.declared.Event.{Event}
 use Rattle.link.specs.declared.Link.{Link}
-use Rattle.link.specs.declared.Answer.{Answer}
+use Rattle.link.specs.Answers.{Answer}
 use Rattle.reports.specs.declared.Counts.{Counts}
 use Rattle.base.specs.Numbers.{taken}
 use Rattle.link.specs.Stepping.{step_of}

@@ -5,8 +5,7 @@ use Rattle.reports.specs.declared.Counts.{Counts}
 use Rattle.link.specs.Handling.{fresh_link}
 use Rattle.link.specs.Stepping.{step_of}
 use Rattle.link.specs.declared.Link.{Link}
-use Rattle.link.specs.declared.Answer.{Answer}
-use Rattle.link.specs.declared.Stepped.{Stepped}
+use Rattle.link.specs.Answers.{Answer, Stepped}
 use Rattle.listing.specs.Listing.{held_of}
 use Rattle.demands.specs.Logs.{Log}
 use Rattle.demands.specs.Histories.{Told, Machine, after}

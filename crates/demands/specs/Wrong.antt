@@ -19,7 +19,7 @@ use Rattle.reports.specs.declared.Counts.{Counts}
 use Rattle.link.specs.Handling.{fresh_link, mark_after}
 use Rattle.link.specs.Stepping.{number_of, refused_by, step_of}
 use Rattle.link.specs.declared.Link.{Link}
-use Rattle.link.specs.declared.Stepped.{Stepped}
+use Rattle.link.specs.Answers.{Stepped}
 use Rattle.listing.specs.Listing.{held_of}
 use Rattle.demands.specs.Histories.{Machine, Host, is_among}
 use Rattle.demands.specs.Idle.{is_drop}

@@ -86,16 +86,18 @@ fn begin() -> Driven
     }
 }
 
-// One event more.
-#[tactic(auto, unfolding(crate::specs::Drive::driven_by))]
+// One event more. One that is refused changes nothing.
+#[tactic(auto, unfolding(crate::specs::Drive::driven_by, crate::specs::Drive::mixed_reports, reports::specs::Reporting::listed))]
 fn drive_on(d: Driven, e: Event) -> Driven
     ensures { result ≡ driven_by d e }
 {
-    let t = link::step(d.link, d.counts, e);
-    Driven {
-        link: t.answer.link,
-        counts: t.counts,
-        digest: mix_reports(d.digest, t.answer.reports),
+    match link::step(d.link, d.counts, e) {
+        Ok(t) => Driven {
+            link: t.answer.link,
+            counts: t.counts,
+            digest: mix_reports(d.digest, t.answer.reports),
+        },
+        Err(_) => d,
     }
 }
 

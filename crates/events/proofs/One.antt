@@ -1,13 +1,11 @@
 -- Any two results that meet a public function's promise are equal. Assumes nothing.
-use mathlib.Core.Path.{◌≡◌, refl, sym, ap, ◌∙◌}
+use mathlib.Core.Path.{◌≡◌, sym, ◌∙◌}
 use mathlib.Core.Bool.{Bool}
 use Prim.Native.Nat.{ℕ}
-use Rattle.std.specs.Prelude.{Result, Ok, Err}
-use Rattle.base.specs.Refusals.{number_of, no_of}
+use Rattle.std.specs.Prelude.{Result}
+use Rattle.base.specs.Refusals.{no_of}
 use Rattle.base.specs.declared.Refusal.{Refusal}
-use Rattle.base.specs.declared.Refusal.TheVariants.{Unknown, TooLate, OutOfOrder, TooMany, BadKeys, BadForm, BadLength, NoRoom, BadChecksum, BadTiming}
-use Rattle.base.proofs.Refusals.{one_number}
-use native.Mathlib.Omega.{arith}
+use Rattle.base.proofs.Refusals.{one_unit}
 use Rattle.base.proofs.One.{Only, only}
 use Rattle.units.specs.declared.Micros.{Micros}
 use Rattle.events.specs.Events.{kind_by, side_by, is_byte, marks, is_tester, is_unit, same_side, refusal}
@@ -36,26 +34,5 @@ is_unit_lem side = only (is_unit side)
 pub same_side_lem : (a b : Side) → Only (λ (r : Bool). r ≡ same_side a b)
 same_side_lem a b = only (same_side a b)
 
--- a refusal's number is not 0, so that the number of an answer fixes the answer
-not_taken : (why : Refusal) → 0 ≡ number_of why → ⊥
-unfolding number_of
-not_taken Unknown e = omega (arith, e)
-not_taken TooLate e = omega (arith, e)
-not_taken OutOfOrder e = omega (arith, e)
-not_taken TooMany e = omega (arith, e)
-not_taken BadKeys e = omega (arith, e)
-not_taken BadForm e = omega (arith, e)
-not_taken BadLength e = omega (arith, e)
-not_taken NoRoom e = omega (arith, e)
-not_taken BadChecksum e = omega (arith, e)
-not_taken BadTiming e = omega (arith, e)
-
-one_answer : (r s : Result Unit Refusal) → no_of r ≡ no_of s → r ≡ s
-unfolding no_of
-one_answer (Ok r) (Ok s) e = refl
-one_answer (Ok r) (Err why) e = absurd (not_taken why e)
-one_answer (Err why) (Ok s) e = absurd (not_taken why (sym e))
-one_answer (Err why) (Err other) e = ap Err (one_number why other e)
-
 pub refused : (clock : Micros) (full : Bool) (e : Event) → Only (λ (r : Result Unit Refusal). no_of r ≡ refusal clock full e)
-refused clock full e r s p q = one_answer r s (p ∙ sym q)
+refused clock full e r s p q = one_unit r s (p ∙ sym q)

@@ -1,13 +1,9 @@
 -- The paper's numbers tell answers apart: an answer of building or of reading is one alone that has these numbers. Assumes nothing.
 use mathlib.Core.Path.{◌≡◌, sym, ap, ◌∙◌}
 use Prim.Native.Nat.{ℕ}
-use native.Mathlib.Omega.{arith}
 use Rattle.std.specs.Prelude.{Result, Ok, Err}
-use Rattle.base.specs.Numbers.{taken}
-use Rattle.base.specs.Refusals.{number_of as refusal_number}
 use Rattle.base.specs.declared.Refusal.{Refusal}
-use Rattle.base.specs.declared.Refusal.TheVariants.{Unknown, TooLate, OutOfOrder, TooMany, BadKeys, BadForm, BadLength, NoRoom, BadChecksum, BadTiming}
-use Rattle.base.proofs.Refusals.{one_number}
+use Rattle.base.proofs.Refusals.{one_number, not_taken}
 use Rattle.keys.specs.declared.Form.{Form}
 use Rattle.frame.specs.Answers.{Built, Reading}
 use Rattle.frame.specs.Layout.{form_numbered, number_of}
@@ -15,20 +11,6 @@ use Rattle.frame.specs.Build.{built_as}
 use Rattle.frame.specs.Read.{read_as}
 use Rattle.frame.specs.declared.Frame.{Frame}
 use Rattle.frame.proofs.WellRead.{form_again}
-
--- no refusal has the number 0
-pub not_taken : (why : Refusal) → refusal_number why ≡ taken → ⊥
-unfolding refusal_number
-not_taken Unknown e = omega arith
-not_taken TooLate e = omega arith
-not_taken OutOfOrder e = omega arith
-not_taken TooMany e = omega arith
-not_taken BadKeys e = omega arith
-not_taken BadForm e = omega arith
-not_taken BadLength e = omega arith
-not_taken NoRoom e = omega arith
-not_taken BadChecksum e = omega arith
-not_taken BadTiming e = omega arith
 
 -- building
 pub one_built : (x y : Result ℕ Refusal) → built_as x ≡ built_as y → x ≡ y

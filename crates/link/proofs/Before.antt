@@ -65,8 +65,7 @@ use Rattle.link.specs.Handling.{passed, shut, hearing, byte_heard, acted_by, act
 use Rattle.link.specs.Handling.{begun as begins}
 use Rattle.link.specs.Stepping.{number_of, refused_by, taken_by, answer_of, counts_after, step_of}
 use Rattle.link.specs.declared.Link.{Link}
-use Rattle.link.specs.declared.Answer.{Answer}
-use Rattle.link.specs.declared.Stepped.{Stepped}
+use Rattle.link.specs.Answers.{Answer, Stepped}
 use Rattle.link.proofs.Ways.{off_right}
 use Rattle.link.proofs.Walk.{moved_phase}
 use Rattle.link.proofs.Four.{three_enough}

@@ -15,7 +15,7 @@ use Rattle.reports.specs.declared.Run.{Run}
 use Rattle.link.specs.Handling.{begun, handled, link_after}
 use Rattle.link.specs.Stepping.{number_of, refused_by, taken_by, answer_of, step_of}
 use Rattle.link.specs.declared.Link.{Link}
-use Rattle.link.specs.declared.Answer.{Answer}
+use Rattle.link.specs.Answers.{Answer}
 use Rattle.link.proofs.Walk.{moved_phase, event_walk}
 
 module _ (J : Phase → Type 0) (keeps : (mark : Micros) (e : Event) (p : Phase) (k : Moment) (m : Move) → Rule mark e p k m → J p → J m.phase) where

@@ -26,7 +26,7 @@ use Rattle.reports.specs.Reporting.{no_reports, moved}
 use Rattle.reports.specs.declared.Run.{Run}
 use Rattle.link.specs.Handling.{passed, byte_acts, acted_by}
 use Rattle.link.specs.declared.Link.{Link}
-use Rattle.link.specs.declared.Answer.{Answer}
+use Rattle.link.specs.Answers.{Answer}
 
 -- no time runs out up to an event's start
 unfoldable pub limit_of : Phase → Limit

@@ -8,8 +8,7 @@ use Rattle.reports.specs.declared.Counts.{Counts}
 use Rattle.reports.specs.Counting.{is_full, counted_event}
 use Rattle.link.specs.Handling.{handled, link_after}
 use Rattle.link.specs.declared.Link.{Link}
-use Rattle.link.specs.declared.Answer.{Answer}
-use Rattle.link.specs.declared.Stepped.{Stepped}
+use Rattle.link.specs.Answers.{Answer, Stepped}
 
 -- the number of an event: 1, 2, 3, 4, or 0
 unfoldable pub number_of : Link → Counts → Event → ℕ

@@ -23,15 +23,14 @@ pub struct Link {
     pub phase: Phase,
 }
 
-// What an event is answered with: the link after it, its reports, its number.
+// What an event that was taken is answered with: the link after it, and its reports.
 #[derive(Clone, Copy)]
 pub struct Answer {
     pub link: Link,
     pub reports: Reports,
-    pub no: u8,
 }
 
-// A step: the answer, and the counts after it.
+// A step of an event that was taken: the answer, and the counts after it.
 #[derive(Clone, Copy)]
 pub struct Stepped {
     pub answer: Answer,

@@ -1,6 +1,7 @@
 // Short ways for the common byte. Under these tests the answer is the one that the rules give:
 // `proofs/Ways.antt`.
-ghost use Rattle.std.specs.Prelude.{◌≡◌};
+ghost use Rattle.std.specs.Prelude.{◌≡◌, Ok};
+ghost use Rattle.link.specs.Answers.{answered_as};
 ghost use Rattle.link.specs.Quick.{limit_of, is_calm, cuts_by, went_on, is_inside, goes_on, is_first_byte};
 
 use crate::{Answer, Link};
@@ -47,7 +48,7 @@ pub(crate) fn cuts(p: Phase, e: Event) -> bool
 // A byte that makes no report.
 #[tactic(auto, unfolding(crate::specs::Quick::went_on))]
 pub(crate) fn go_on(l: Link, e: Event, p: Phase) -> Answer
-    ensures { result ≡ went_on l e p }
+    ensures { answered_as l (Ok result) ≡ went_on l e p }
 {
     Answer {
         link: Link {
@@ -59,7 +60,6 @@ pub(crate) fn go_on(l: Link, e: Event, p: Phase) -> Answer
             phase: p,
         },
         reports: no_reports(),
-        no: base::TAKEN,
     }
 }
 

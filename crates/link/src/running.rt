@@ -5,17 +5,17 @@ ghost use Rattle.link.specs.Running.{runs_on, ran_on};
 
 use crate::Link;
 use crate::quick::goes_on;
-use crate::stepping::number;
+use crate::stepping::check;
 use events::Event;
 use reports::Counts;
 
 // Whether an event is taken and goes on with the message held: no report, and no more than the
 // message grows.
-#[tactic(auto, unfolding(crate::specs::Running::runs_on))]
+#[tactic(auto, unfolding(crate::specs::Running::runs_on), using(crate::proofs::Answered::check_ok))]
 pub fn runs_on(l: Link, c: Counts, e: Event) -> bool
     ensures { result ≡ runs_on l c e }
 {
-    number(l, c, e) == base::TAKEN && goes_on(l, e)
+    check(l, c, e).is_ok() && goes_on(l, e)
 }
 
 // The link after such an event.

@@ -1,11 +1,16 @@
 // A step of the link.
-ghost use Rattle.std.specs.Prelude.{◌≡◌};
+ghost use Rattle.std.specs.Prelude.{◌≡◌, Ok};
+ghost use Rattle.base.specs.Reasons.{down_number};
+ghost use Rattle.base.specs.Refusals.{no_of};
+ghost use Rattle.link.specs.Answers.{answered_as, counted_as, stepped_as};
 ghost use Rattle.link.specs.Handling.{fresh_link, passed, shut, hearing, byte_acts, begun, handled, mark_after, link_after};
 ghost use Rattle.link.specs.Quick.{cut_by, approached, acts_by};
-ghost use Rattle.link.specs.Stepping.{number_of, refused_by, taken_by, answer_of, counts_after, step_of};
+ghost use Rattle.link.specs.Stepping.{number_of, taken_by, answer_of, counts_after, step_of};
 
 use crate::quick::{cuts, go_on, goes_on, is_calm, is_first_byte};
 use crate::{Answer, Link, Stepped};
+use base::Refusal;
+use base::reason::Down;
 use events::{Event, Kind};
 use reports::{Counts, Run, make, no_reports};
 use units::Micros;
@@ -63,11 +68,11 @@ fn approach(r: Run, e: Event, mark: Micros) -> Run
 
 // What is open is closed, and a connected link goes down.
 #[tactic(auto, unfolding(crate::specs::Handling::shut))]
-fn shut_all(r: Run, reason: u8) -> Run
-    ensures { result ≡ shut r reason }
+fn shut_all(r: Run, why: Down) -> Run
+    ensures { result ≡ shut r (down_number why) }
 {
     let r1 = make(r, moves::close_open(r.phase));
-    make(r1, moves::leave(r1.phase, reason))
+    make(r1, moves::leave(r1.phase, why.into()))
 }
 
 // A byte is heard.
@@ -92,26 +97,27 @@ fn hear_byte(r: Run, e: Event, mark: Micros) -> Run
 }
 
 // An event acts.
+#[tactic(auto, unfolding(base::specs::Reasons::down_number))]
 fn act(r: Run, e: Event, mark: Micros) -> Run
     ensures { result ≡ acts_by e.kind r e mark }
 {
     match e.kind {
         Kind::Address => {
-            let r1 = shut_all(r, base::reason::RESTARTED);
+            let r1 = shut_all(r, Down::Restarted);
             make(
                 r1,
                 moves::starting_slow(r1.phase.idle, e.value, mark, e.start),
             )
         }
         Kind::WakeUp => {
-            let r2 = shut_all(r, base::reason::RESTARTED);
+            let r2 = shut_all(r, Down::Restarted);
             make(
                 r2,
                 moves::starting_fast(r2.phase.idle, mark, e.start, e.end),
             )
         }
         Kind::Byte => hear_byte(r, e, mark),
-        Kind::Drop => shut_all(r, base::reason::DROPPED),
+        Kind::Drop => shut_all(r, Down::Dropped),
         Kind::Tick | Kind::Other => r,
     }
 }
@@ -165,52 +171,34 @@ fn finish(l: Link, e: Event, r: Run) -> Link
     }
 }
 
-// The number of an event.
-#[tactic(auto, unfolding(crate::specs::Stepping::number_of, base::specs::Refusals::no_of))]
-pub(crate) fn number(l: Link, c: Counts, e: Event) -> u8
-    ensures { result ≡ number_of l c e }
+// Whether an event is taken, or why it is refused.
+#[tactic(auto, unfolding(crate::specs::Stepping::number_of))]
+pub(crate) fn check(l: Link, c: Counts, e: Event) -> Result<(), Refusal>
+    ensures { no_of result ≡ number_of l c e }
 {
-    match events::refused(l.clock, reports::is_full(l.taken, c), e) {
-        Ok(()) => base::TAKEN,
-        Err(why) => why.into(),
-    }
-}
-
-// A refused event.
-#[tactic(auto, unfolding(crate::specs::Stepping::refused_by))]
-fn refuse(link: Link, no: u8) -> Answer
-    ensures { result ≡ refused_by link no }
-{
-    Answer {
-        link,
-        reports: no_reports(),
-        no,
-    }
+    events::refused(l.clock, reports::is_full(l.taken, c), e)
 }
 
 // An event that is taken.
 #[tactic(auto, unfolding(crate::specs::Stepping::taken_by))]
 fn take(l: Link, e: Event) -> Answer
-    ensures { result ≡ taken_by l e }
+    ensures { answered_as l (Ok result) ≡ taken_by l e }
 {
     let r = handle(l, e);
     Answer {
         link: finish(l, e, r),
         reports: r.reports,
-        no: base::TAKEN,
     }
 }
 
 // What an event is answered with.
-#[tactic(auto, unfolding(crate::specs::Stepping::answer_of), using(crate::proofs::Ways::on_step, crate::proofs::Ways::first_step))]
-pub fn respond(l: Link, c: Counts, e: Event) -> Answer
-    ensures { result ≡ answer_of l c e }
+#[tactic(auto, unfolding(crate::specs::Stepping::answer_of, base::specs::Refusals::no_of), using(crate::proofs::Answered::answer_refused, crate::proofs::Ways::on_step, crate::proofs::Ways::first_step))]
+pub fn respond(l: Link, c: Counts, e: Event) -> Result<Answer, Refusal>
+    ensures { answered_as l result ≡ answer_of l c e }
 {
-    let no = number(l, c, e);
+    check(l, c, e)?;
     let p = l.phase;
-    if no != base::TAKEN {
-        refuse(l, no)
-    } else if goes_on(l, e) {
+    Ok(if goes_on(l, e) {
         go_on(l, e, phases::hold(p, talk::grow(p.message, e.value)))
     } else if is_first_byte(l, e) {
         go_on(
@@ -220,29 +208,28 @@ pub fn respond(l: Link, c: Counts, e: Event) -> Answer
         )
     } else {
         take(l, e)
-    }
+    })
 }
 
-// The counts after an event, by its answer.
+// The counts after an event, by its answer: a refusal of any kind leaves them.
 #[tactic(auto, unfolding(crate::specs::Stepping::counts_after))]
-pub fn counted(c: Counts, a: Answer, e: Event) -> Counts
-    ensures { result ≡ counts_after c a e }
+pub fn counted<R: Drop>(c: Counts, a: Result<Answer, R>, e: Event) -> Counts
+    ensures { result ≡ counts_after c (counted_as fresh_link a) e }
 {
-    if a.no == base::TAKEN {
-        reports::count_event(c, events::is_byte(e.kind), a.reports)
-    } else {
-        c
+    match a {
+        Ok(a) => reports::count_event(c, events::is_byte(e.kind), a.reports),
+        Err(_) => c,
     }
 }
 
 // A step: the answer to an event, and the counts brought up to date.
-#[tactic(auto, unfolding(crate::specs::Stepping::step_of))]
-pub fn step(l: Link, c: Counts, e: Event) -> Stepped
-    ensures { result ≡ step_of l c e }
+#[tactic(auto, unfolding(crate::specs::Stepping::step_of), using(crate::proofs::Answered::step_refused))]
+pub fn step(l: Link, c: Counts, e: Event) -> Result<Stepped, Refusal>
+    ensures { stepped_as l c result ≡ step_of l c e }
 {
-    let answer = respond(l, c, e);
-    Stepped {
+    let answer = respond(l, c, e)?;
+    Ok(Stepped {
         answer,
-        counts: counted(c, answer, e),
-    }
+        counts: counted::<Refusal>(c, Ok(answer), e),
+    })
 }

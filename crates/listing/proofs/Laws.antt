@@ -9,9 +9,11 @@ use lib.Seq.{drop-drop, drop-cons}
 use borrow.Author.Tests.{eq-eqb, ne_eqb, le-leb, lt-ltb, le-ltb, leb-true, ltb-true, ltb-false}
 use native.Mathlib.Omega.{arith}
 use native.Mathlib.Nat.{zero-add}
-use Rattle.std.specs.Prelude.{Option, Some, None, IfSome}
+use Rattle.std.specs.Prelude.{Option, Some, None, IfSome, Ok, Err}
 use Rattle.std.proofs.lemmas.Option.{none-some}
 use Rattle.base.specs.Numbers.{taken}
+use Rattle.base.specs.Refusals.{number_of}
+use Rattle.base.specs.declared.Refusal.{Refusal}
 use Rattle.base.proofs.Tests.{and_split, by_test}
 use Rattle.events.specs.declared.Event.{Event}
 use Rattle.reports.specs.Reporting.{listed}
@@ -20,8 +22,9 @@ use Rattle.reports.specs.declared.Counts.{Counts}
 use Rattle.link.specs.Stepping.{step_of}
 use Rattle.link.specs.Running.{runs_on, ran_on}
 use Rattle.link.specs.declared.Link.{Link}
-use Rattle.link.specs.declared.Answer.{Answer}
+use Rattle.link.specs.Answers.{stepped_as}
 use Rattle.link.specs.declared.Stepped.{Stepped}
+use Rattle.base.proofs.Refusals.{not_taken}
 use Rattle.link.proofs.Ways.{runs_on_lem}
 use Rattle.lines.specs.Lines.{fresh_reading, read_byte, is_letter, is_empty}
 use Rattle.lines.specs.Getting.{got_of, ended, cut_off}
@@ -307,28 +310,33 @@ part_none l s out h = parted_as l s out l [] 0 0 out (rw (lt-ltb (length out) an
 pub tests : (at len n room : ℕ) → (ltb at len && leb n room) ≡ true → (at < len) × (n ≤ room)
 tests at len n room t = let p = and_split (ltb at len) (leb n room) t in (ltb-true at len p.0, leb-true n room p.1)
 
--- ---- an answer written
-pub answer_reports : (at : ℕ) (a : Answer) (out : List ℕ) (r : ℕ) (after : List ℕ) → a.no ≡ taken → at + answer_most ≤ length out
-    → Writes (reports_text (listed a.reports)) answer_most at out r after
-    → Puts at (answer_text a) answer_most out r after
-unfolding answer_text
-answer_reports at a out r after e h w =
-    rw (eq-eqb a.no taken e) (writes_puts (reports_text (listed a.reports)) answer_most at out r after h (reports_small a.reports) w)
-
-pub answer_refusal : (at : ℕ) (a : Answer) (out : List ℕ) (r : ℕ) (after : List ℕ) → (a.no ≡ taken → ⊥) → at + answer_most ≤ length out
-    → Writes (refused_text a.no) refused_most at out r after
-    → Puts at (answer_text a) answer_most out r after
-unfolding answer_text
-answer_refusal at a out r after e h w =
-    let k = refused_small a.no in
-    rw (ne_eqb a.no taken e)
-    (wider at (refused_text a.no) refused_most answer_most out r after (omega arith) (writes_puts (refused_text a.no) refused_most at out r after (omega arith) k w))
-
-pub acted : (l : Lister) (e : Event) (at n : ℕ) (out : List ℕ) (t : Stepped) (rd : Reading) (m : ℕ) (after : List ℕ) → t ≡ step_of l.link l.counts e → rd ≡ fresh_reading
-    → Puts n (answer_text t.answer) answer_most out m after
+-- ---- an event's step, and its answer written: its reports, ..
+pub acted_taken : (l : Lister) (e : Event) (at n : ℕ) (out : List ℕ) (t : Stepped) (rd : Reading) (m : ℕ) (after : List ℕ)
+    → stepped_as l.link l.counts (Ok t) ≡ step_of l.link l.counts e → rd ≡ fresh_reading → n + answer_most ≤ length out
+    → Writes (reports_text (listed t.answer.reports)) answer_most n out m after
     → Acted l e at n out (record { lister = record { link = t.answer.link; counts = t.counts; reading = rd }; at = at; put = m }) after
-unfolding stepped said_of
-acted l e at n out t rd m after et er u = record { lister = rw (et, er) refl; place = refl; wrote = rw et at u }
+unfolding stepped said_of answer_text
+acted_taken l e at n out t rd m after es er h w = record {
+  lister = rw (← es, er) refl;
+  place = refl;
+  wrote = rw (← es) (writes_puts (reports_text (listed t.answer.reports)) answer_most n out m after h (reports_small t.answer.reports) w);
+}
+
+-- .. or its refusal
+pub acted_refused : (l : Lister) (e : Event) (at n : ℕ) (out : List ℕ) (why : Refusal) (rd : Reading) (m : ℕ) (after : List ℕ)
+    → stepped_as l.link l.counts (Err why) ≡ step_of l.link l.counts e → rd ≡ fresh_reading → n + answer_most ≤ length out
+    → Writes (refused_text (number_of why)) refused_most n out m after
+    → Acted l e at n out (record { lister = record { link = l.link; counts = l.counts; reading = rd }; at = at; put = m }) after
+unfolding stepped said_of answer_text
+acted_refused l e at n out why rd m after es er h w =
+    let k = refused_small (number_of why) in
+    record {
+      lister = rw (← es, er) refl;
+      place = refl;
+      wrote = rw (← es, ne_eqb (number_of why) taken (not_taken why))
+          (wider n (refused_text (number_of why)) refused_most answer_most out m after (omega arith)
+          (writes_puts (refused_text (number_of why)) refused_most n out m after (omega arith) k w));
+    }
 
 -- ---- the end
 pub ended_none : (l : Lister) (out : List ℕ) → is_empty l.reading ≡ true → Ended l out (record { lister = l; at = 0; put = 0 }) out

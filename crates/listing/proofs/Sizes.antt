@@ -11,7 +11,7 @@ use Rattle.base.specs.Numbers.{taken}
 use Rattle.base.proofs.Tests.{by_test}
 use Rattle.events.specs.declared.Event.{Event}
 use Rattle.link.specs.Stepping.{step_of}
-use Rattle.link.specs.declared.Answer.{Answer}
+use Rattle.link.specs.Answers.{Answer}
 use Rattle.lines.specs.Lines.{is_empty, event_of}
 use Rattle.words.specs.Writing.{put, Writes}
 use Rattle.text.specs.Text.{end_text}

@@ -7,7 +7,7 @@ use Rattle.reports.specs.Counting.{zero_counts}
 use Rattle.link.specs.Handling.{fresh_link}
 use Rattle.link.specs.Stepping.{step_of}
 use Rattle.link.specs.declared.Link.{Link}
-use Rattle.link.specs.declared.Answer.{Answer}
+use Rattle.link.specs.Answers.{Answer}
 use Rattle.lines.specs.Lines.{fresh_reading, read_byte, is_empty, event_of}
 use Rattle.lines.specs.Getting.{line_feed}
 use Rattle.lines.specs.declared.Reading.{Reading}

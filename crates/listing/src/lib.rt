@@ -2,15 +2,15 @@
 #![tactic(auto)]
 
 ghost use Rattle.std.specs.Prelude.{◌≡◌, ◌+◌, ◌≤◌, length, drop};
-ghost use Rattle.words.specs.Writing.{Puts, Writes};
+ghost use Rattle.words.specs.Writing.{Writes};
 ghost use Rattle.lines.specs.Getting.{got_of};
-ghost use Rattle.listing.specs.Listing.{fresh_lister, answer_text, held_of, ending_of};
+ghost use Rattle.listing.specs.Listing.{fresh_lister, held_of, ending_of};
 ghost use Rattle.listing.specs.Parts.{answer_most, ending_most, Parted};
 ghost use Rattle.listing.specs.Turns.{Acted, reading_after, RowAt, Glided, Stretched, Turned, Ended};
 
 use events::Event;
 use lines::{Got, Reading, Row};
-use link::{Answer, Link};
+use link::Link;
 use reports::Counts;
 
 // Who lists: the link, its counts, and the line of input that has not ended.
@@ -57,33 +57,31 @@ pub fn begin() -> Lister
     }
 }
 
-// An answer's lines: its refusal, or its reports.
-fn put_answer(out: &mut [u8], at: usize, a: Answer) -> usize
-    requires { at + answer_most ≤ length out.old }
-    ensures { Puts at (answer_text a) answer_most out.old result out.new }
-{
-    if a.no == base::TAKEN {
-        text::put_reports(out, at, a.reports)
-    } else {
-        text::put_refusal(out, at, a.no)
-    }
-}
-
-// A line has ended: its event makes a step, and the answer is written.
+// A line has ended: its event makes a step, and its answer's lines are written: its reports, or its
+// refusal.
 fn act(part: Part, e: Event, out: &mut [u8]) -> Part
     requires { part.put + answer_most ≤ length out.old }
     ensures { Acted part.lister e part.at part.put out.old result out.new }
 {
-    let t = link::step(part.lister.link, part.lister.counts, e);
-    let put = put_answer(out, part.put, t.answer);
-    Part {
-        lister: Lister {
-            link: t.answer.link,
-            counts: t.counts,
-            reading: lines::begin(),
+    let reading = lines::begin();
+    match link::step(part.lister.link, part.lister.counts, e) {
+        Ok(t) => Part {
+            put: text::put_reports(out, part.put, t.answer.reports),
+            lister: Lister {
+                link: t.answer.link,
+                counts: t.counts,
+                reading,
+            },
+            ..part
         },
-        put,
-        ..part
+        Err(why) => Part {
+            put: text::put_refusal(out, part.put, why.into()),
+            lister: Lister {
+                reading,
+                ..part.lister
+            },
+            ..part
+        },
     }
 }
 

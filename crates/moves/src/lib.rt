@@ -3,6 +3,7 @@
 
 mod actions;
 mod passing;
+mod saying;
 
 pub use actions::{after_byte, after_stop, first_frame_byte, starting_fast, starting_slow};
 pub use passing::{

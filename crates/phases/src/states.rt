@@ -152,7 +152,7 @@ pub fn hold(p: Phase, m: Message) -> Phase
     talk_on(p, State::Held, p.reply, m)
 }
 
-// With damage being skipped.
+// With damage being skipped. (A message holds any number, so the reason stays a u8.)
 #[tactic(auto, unfolding(crate::specs::Phases::damaged))]
 pub fn damage(p: Phase, why: u8) -> Phase
     ensures { result ≡ damaged p why }

@@ -74,16 +74,19 @@ impl Session {
 
     // One event is heard, with the counts lent for it, and its answer is printed.
     fn hear(self, rt: &impl Print, e: Event) -> io::Result<Session> {
-        let stepped = counts::step_owned(self.counts, self.link, e);
-        let a = stepped.answer;
-        if a.no != base::TAKEN {
-            println!(rt; "refused {}", a.no)?;
+        match counts::step_owned(self.counts, self.link, e) {
+            Ok(stepped) => {
+                print_reports(rt, stepped.answer.reports)?;
+                Ok(Session {
+                    link: stepped.answer.link,
+                    counts: stepped.counts,
+                })
+            }
+            Err(why) => {
+                println!(rt; "refused {}", u8::from(why))?;
+                Ok(self)
+            }
         }
-        print_reports(rt, a.reports)?;
-        Ok(Session {
-            link: a.link,
-            counts: stepped.counts,
-        })
     }
 
     // The seven counts, and the bytes held.

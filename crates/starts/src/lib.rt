@@ -2,11 +2,13 @@
 #![tactic(auto)]
 
 ghost use Rattle.std.specs.Prelude.{◌≡◌};
+ghost use Rattle.base.specs.Failures.{failure_no};
 ghost use Rattle.starts.specs.Starts.{due, first_due, last_due, due_at, origin_of, complement, is_reply_format, fits};
 ghost use Rattle.starts.specs.Starts.{is_from, is_early, judged, is_over};
 ghost use Rattle.starts.specs.Starts.{after_format, passed_on, kept_one, kept_two, requested, onward, is_last};
 ghost use Rattle.starts.specs.Starts.{no_start, slow_start, fast_start};
 
+use base::reason::Failure;
 use events::Side;
 use keys::Pair;
 use units::Micros;
@@ -190,20 +192,19 @@ fn is_early(s: Start, gap: Micros) -> bool
     gap < due_at(s.stage).earliest
 }
 
-// Judges a byte that comes so long after its origin: the reason it fails for, or 0. The reason stays a
-// u8: it goes into a report, and those who are given reports take any.
-#[tactic(auto, unfolding(crate::specs::Starts::judged))]
-pub fn judge(s: Start, side: Side, v: u8, gap: Micros) -> u8
-    ensures { result ≡ judged s side v gap }
+// Judges a byte that comes so long after its origin.
+#[tactic(auto, unfolding(crate::specs::Starts::judged, base::specs::Failures::failure_number, base::specs::Failures::failure_no))]
+pub fn judge(s: Start, side: Side, v: u8, gap: Micros) -> Result<(), Failure>
+    ensures { failure_no result ≡ judged s side v gap }
 {
     if !is_from(s, side) {
-        base::reason::WRONG_SIDE
+        Err(Failure::WrongSide)
     } else if is_early(s, gap) {
-        base::reason::TOO_EARLY
+        Err(Failure::TooEarly)
     } else if is_fitting(s, v) {
-        base::reason::NONE
+        Ok(())
     } else {
-        base::reason::MISFIT
+        Err(Failure::Misfit)
     }
 }
 

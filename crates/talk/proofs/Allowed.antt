@@ -9,7 +9,7 @@ use Rattle.base.specs.declared.Refusal.{Refusal}
 use Rattle.timing.specs.Answers.{Decoded}
 use Rattle.timing.specs.Timing.{answer_decoded}
 use Rattle.timing.specs.declared.Windows.{Windows}
-use Rattle.timing.proofs.Answers.{refused}
+use Rattle.base.proofs.Refusals.{refused}
 use Rattle.talk.specs.Talk.{if_allowed}
 
 as_result : (r : Result Windows Refusal) (w : Windows) → if_allowed (answer_decoded r) w ≡ result_unwrap_or r w

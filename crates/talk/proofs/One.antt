@@ -1,8 +1,12 @@
 -- Any two results that meet a public function's promise are equal. Assumes nothing.
-use mathlib.Core.Path.{◌≡◌}
+use mathlib.Core.Path.{◌≡◌, sym, ◌∙◌}
 use mathlib.Core.Bool.{Bool}
 use Prim.Native.Nat.{ℕ}
+use Rattle.std.specs.Prelude.{Option}
 use Rattle.base.proofs.One.{Only, only}
+use Rattle.base.specs.Reasons.{why_of}
+use Rattle.base.specs.declared.reason.Damage.{Damage}
+use Rattle.base.proofs.Reasons.{one_why}
 use Rattle.talk.specs.declared.Message.{Message}
 use Rattle.units.specs.declared.Micros.{Micros}
 use Rattle.talk.specs.declared.Part.{Part}
@@ -16,11 +20,11 @@ use Rattle.talk.specs.Talk.{is_first, frame_reason, first_reason, begun, begun_b
 pub is_first_lem : (reply : Reply) → Only (λ (r : Bool). r ≡ is_first reply)
 is_first_lem reply = only (is_first reply)
 
-pub frame_reason_lem : (kb1 : ℕ) (reply : Reply) (w : Windows) (side : Side) (f : ℕ) (gap : Micros) → Only (λ (r : ℕ). r ≡ frame_reason kb1 reply w side f gap)
-frame_reason_lem kb1 reply w side f gap = only (frame_reason kb1 reply w side f gap)
+pub frame_reason_lem : (kb1 : ℕ) (reply : Reply) (w : Windows) (side : Side) (f : ℕ) (gap : Micros) → Only (λ (r : Option Damage). why_of r ≡ frame_reason kb1 reply w side f gap)
+frame_reason_lem kb1 reply w side f gap r s p q = one_why r s (p ∙ sym q)
 
-pub first_reason_lem : (pair : Pair) (reply : Reply) (w : Windows) (side : Side) (f : ℕ) (gap : Micros) → Only (λ (r : ℕ). r ≡ first_reason pair reply w side f gap)
-first_reason_lem pair reply w side f gap = only (first_reason pair reply w side f gap)
+pub first_reason_lem : (pair : Pair) (reply : Reply) (w : Windows) (side : Side) (f : ℕ) (gap : Micros) → Only (λ (r : Option Damage). why_of r ≡ first_reason pair reply w side f gap)
+first_reason_lem pair reply w side f gap r s p q = one_why r s (p ∙ sym q)
 
 pub begin_frame : (side : Side) (f : ℕ) → Only (λ (r : Message). r ≡ begun side f)
 begin_frame side f = only (begun side f)
@@ -28,14 +32,14 @@ begin_frame side f = only (begun side f)
 pub begin : (pair : Pair) (side : Side) (f : ℕ) → Only (λ (r : Message). r ≡ begun_by pair side f)
 begin pair side f = only (begun_by pair side f)
 
-pub later_reason_lem : (m : Message) (side : Side) (v : ℕ) → Only (λ (r : ℕ). r ≡ later_reason m side v)
-later_reason_lem m side v = only (later_reason m side v)
+pub later_reason_lem : (m : Message) (side : Side) (v : ℕ) → Only (λ (r : Option Damage). why_of r ≡ later_reason m side v)
+later_reason_lem m side v r s p q = one_why r s (p ∙ sym q)
 
 pub is_sum_lem : (part : Part) → Only (λ (r : Bool). r ≡ is_sum part)
 is_sum_lem part = only (is_sum part)
 
-pub end_reason_lem : (m : Message) → Only (λ (r : ℕ). r ≡ end_reason m)
-end_reason_lem m = only (end_reason m)
+pub end_reason_lem : (m : Message) → Only (λ (r : Option Damage). why_of r ≡ end_reason m)
+end_reason_lem m r s p q = one_why r s (p ∙ sym q)
 
 pub grow : (m : Message) (v : ℕ) → Only (λ (r : Message). r ≡ grown m v)
 grow m v = only (grown m v)

@@ -4,6 +4,7 @@
 mod cars;
 
 ghost use Rattle.std.specs.Prelude.{◌≡◌, [], ◌∷◌};
+ghost use Rattle.base.specs.Reasons.{why_of};
 ghost use Rattle.talk.specs.Talk.{is_first, tester_turn, is_stray, is_hasty, unit_turn, turn_reason};
 ghost use Rattle.talk.specs.Talk.{has_extra, place_announced, head_reason, frame_reason, first_reason};
 ghost use Rattle.talk.specs.Talk.{after_addresses, part_after_format, begun, begun_by, part_reason, later_reason, is_sum, is_free, end_reason};
@@ -11,6 +12,7 @@ ghost use Rattle.talk.specs.Talk.{with_seven, after_data, with_part, with_length
 ghost use Rattle.talk.specs.Talk.{is_exactly, asks_codes, request_of, is_effective, codes_in, windows_for, windows_after};
 ghost use Rattle.talk.specs.Talk.{spent, request_after, is_stopped};
 
+use base::reason::Damage;
 use events::Side;
 use keys::{Form, Pair};
 use timing::{Codes, Windows};
@@ -79,12 +81,12 @@ pub fn is_first(reply: Reply) -> bool
 }
 
 // The reason against a tester's first byte, so long after the mark.
-#[tactic(auto, unfolding(crate::specs::Talk::tester_turn))]
-fn tester_turn(reply: Reply, w: Windows, gap: Micros) -> u8
-    ensures { result ≡ tester_turn reply w gap }
+#[tactic(auto, unfolding(crate::specs::Talk::tester_turn, base::specs::Reasons::damage_number, base::specs::Reasons::why_of))]
+fn tester_turn(reply: Reply, w: Windows, gap: Micros) -> Option<Damage>
+    ensures { why_of result ≡ tester_turn reply w gap }
 {
     let early = is_first(reply) | (gap < w.p3min);
-    base::either(early, base::reason::EARLY, base::reason::NONE)
+    if early { Some(Damage::Early) } else { None }
 }
 
 // Whether a unit's first byte is stray.
@@ -104,23 +106,23 @@ fn is_hasty(w: Windows, gap: Micros) -> bool
 }
 
 // The reason against a unit's first byte.
-#[tactic(auto, unfolding(crate::specs::Talk::unit_turn))]
-fn unit_turn(reply: Reply, w: Windows, gap: Micros) -> u8
-    ensures { result ≡ unit_turn reply w gap }
+#[tactic(auto, unfolding(crate::specs::Talk::unit_turn, base::specs::Reasons::damage_number, base::specs::Reasons::why_of))]
+fn unit_turn(reply: Reply, w: Windows, gap: Micros) -> Option<Damage>
+    ensures { why_of result ≡ unit_turn reply w gap }
 {
     if is_stray(reply, w, gap) {
-        base::reason::STRAY
+        Some(Damage::Stray)
     } else if is_hasty(w, gap) {
-        base::reason::EARLY
+        Some(Damage::Early)
     } else {
-        base::reason::NONE
+        None
     }
 }
 
 // The reason against a first byte by its side and time.
 #[tactic(auto, unfolding(crate::specs::Talk::turn_reason))]
-fn turn_reason(reply: Reply, w: Windows, side: Side, gap: Micros) -> u8
-    ensures { result ≡ turn_reason reply w side gap }
+fn turn_reason(reply: Reply, w: Windows, side: Side, gap: Micros) -> Option<Damage>
+    ensures { why_of result ≡ turn_reason reply w side gap }
 {
     if events::is_tester(side) {
         tester_turn(reply, w, gap)
@@ -150,40 +152,48 @@ fn place_announced(kb1: u8, f: u8) -> bool
 }
 
 // The reason against a format byte.
-#[tactic(auto, unfolding(crate::specs::Talk::head_reason))]
-fn head_reason(kb1: u8, f: u8) -> u8
-    ensures { result ≡ head_reason kb1 f }
+#[tactic(auto, unfolding(crate::specs::Talk::head_reason, base::specs::Reasons::damage_number, base::specs::Reasons::why_of))]
+fn head_reason(kb1: u8, f: u8) -> Option<Damage>
+    ensures { why_of result ≡ head_reason kb1 f }
 {
-    let form = frame::format_form(f);
     if f / 64 == 1 {
-        base::reason::MODE_ONE
-    } else if !keys::takes_form(kb1, form) {
-        base::reason::WRONG_FORM
+        Some(Damage::ModeOne)
+    } else if !keys::takes_form(kb1, frame::format_form(f)) {
+        Some(Damage::WrongForm)
     } else if place_announced(kb1, f) {
-        base::reason::NONE
+        None
     } else {
-        base::reason::WRONG_LENGTH
+        Some(Damage::WrongLength)
     }
 }
 
-// The reason against the first byte of a message of a 14230 link, so long after the mark, or 0. (Reply, windows, side and
+// The reason against the first byte of a message of a 14230 link, so long after the mark. (Reply, windows, side and
 // gap stay parameters of their own: the promises take them one by one.)
-#[tactic(auto, unfolding(crate::specs::Talk::frame_reason))]
-pub fn frame_reason(kb1: u8, reply: Reply, w: Windows, side: Side, f: u8, gap: Micros) -> u8
-    ensures { result ≡ frame_reason kb1 reply w side f gap }
+#[tactic(auto, unfolding(crate::specs::Talk::frame_reason, base::specs::Reasons::why_of), using(base::proofs::Reasons::is_some))]
+pub fn frame_reason(
+    kb1: u8,
+    reply: Reply,
+    w: Windows,
+    side: Side,
+    f: u8,
+    gap: Micros,
+) -> Option<Damage>
+    ensures { why_of result ≡ frame_reason kb1 reply w side f gap }
 {
-    let turn = turn_reason(reply, w, side, gap);
-    if turn == base::reason::NONE {
-        head_reason(kb1, f)
-    } else {
-        turn
-    }
+    turn_reason(reply, w, side, gap).or_else(|| head_reason(kb1, f))
 }
 
 // The same, of either edition.
 #[tactic(auto, unfolding(crate::specs::Talk::first_reason))]
-pub fn first_reason(pair: Pair, reply: Reply, w: Windows, side: Side, f: u8, gap: Micros) -> u8
-    ensures { result ≡ first_reason pair reply w side f gap }
+pub fn first_reason(
+    pair: Pair,
+    reply: Reply,
+    w: Windows,
+    side: Side,
+    f: u8,
+    gap: Micros,
+) -> Option<Damage>
+    ensures { why_of result ≡ first_reason pair reply w side f gap }
 {
     if pair.is_car() {
         turn_reason(reply, w, side, gap)
@@ -239,25 +249,26 @@ pub fn begin(pair: Pair, side: Side, f: u8) -> Message
 }
 
 // The reason against a byte of the message's own side.
-fn part_reason(m: Message, v: u8) -> u8
-    ensures { result ≡ part_reason m.part m v }
+#[tactic(auto, unfolding(base::specs::Reasons::damage_number, base::specs::Reasons::why_of))]
+fn part_reason(m: Message, v: u8) -> Option<Damage>
+    ensures { why_of result ≡ part_reason m.part m v }
 {
     match m.part {
-        Part::Length => base::either(v == 0, base::reason::WRONG_LENGTH, base::reason::NONE),
-        Part::Sum => base::either(v == m.sum, base::reason::NONE, base::reason::WRONG_SUM),
-        Part::Target | Part::Source | Part::Data | Part::Free => base::reason::NONE,
+        Part::Length if v == 0 => Some(Damage::WrongLength),
+        Part::Sum if v != m.sum => Some(Damage::WrongSum),
+        _ => None,
     }
 }
 
-// The reason against a later byte of a message, or 0.
-#[tactic(auto, unfolding(crate::specs::Talk::later_reason))]
-pub fn later_reason(m: Message, side: Side, v: u8) -> u8
-    ensures { result ≡ later_reason m side v }
+// The reason against a later byte of a message.
+#[tactic(auto, unfolding(crate::specs::Talk::later_reason, base::specs::Reasons::damage_number, base::specs::Reasons::why_of))]
+pub fn later_reason(m: Message, side: Side, v: u8) -> Option<Damage>
+    ensures { why_of result ≡ later_reason m side v }
 {
     if events::same_side(side, m.side) {
         part_reason(m, v)
     } else {
-        base::reason::OTHER_SIDE
+        Some(Damage::OtherSide)
     }
 }
 
@@ -277,16 +288,15 @@ fn is_free(part: Part) -> bool
     part == Part::Free
 }
 
-// The reason of a message that has ended because 20 ms have passed, or of a car's that a unit's byte
-// ends; or 0.
-#[tactic(auto, unfolding(crate::specs::Talk::end_reason))]
-pub fn end_reason(m: Message) -> u8
-    ensures { result ≡ end_reason m }
+// The reason of a message that has ended because 20 ms have passed, or of a car's that a unit's byte ends.
+#[tactic(auto, unfolding(crate::specs::Talk::end_reason, base::specs::Reasons::damage_number, base::specs::Reasons::why_of))]
+pub fn end_reason(m: Message) -> Option<Damage>
+    ensures { why_of result ≡ end_reason m }
 {
     if is_free(m.part) {
         cars::car_reason(m)
     } else {
-        base::reason::BROKEN_OFF
+        Some(Damage::BrokenOff)
     }
 }
 

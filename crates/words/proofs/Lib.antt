@@ -7,4 +7,5 @@ pub mod Pairs
 pub mod Runs
 pub mod Back
 pub mod Exactly
+pub mod Fits
 pub mod One

@@ -14,7 +14,7 @@ use Rattle.reports.specs.declared.Counts.{Counts}
 use Rattle.reports.proofs.Places.{listed_few}
 use Rattle.link.specs.Stepping.{taken_by}
 use Rattle.link.specs.declared.Link.{Link}
-use Rattle.link.specs.declared.Answer.{Answer}
+use Rattle.link.specs.Answers.{Answer}
 use Rattle.link.specs.Telling.{handled_tells}
 use Rattle.link.proofs.Four.{four_enough}
 use Rattle.text.specs.Text.{head_text, end_text}

@@ -19,7 +19,7 @@ use Rattle.reports.specs.Reporting.{listed}
 use Rattle.link.specs.Handling.{handled, link_after}
 use Rattle.link.specs.Stepping.{refused_by, taken_by}
 use Rattle.link.specs.declared.Link.{Link}
-use Rattle.link.specs.declared.Answer.{Answer}
+use Rattle.link.specs.Answers.{Answer}
 use Rattle.starts.specs.declared.Start.{Start}
 use Rattle.demands.specs.Logs.{Log, none, ◌▷◌, number_after, taken_of}
 use Rattle.demands.specs.Histories.{Host, after, reports_to, is_among, Says}

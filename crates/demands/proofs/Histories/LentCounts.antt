@@ -16,7 +16,7 @@ use Rattle.reports.specs.declared.Report.{Report}
 use Rattle.reports.specs.declared.Counts.{Counts}
 use Rattle.link.specs.Handling.{handled}
 use Rattle.link.specs.Stepping.{number_of, taken_by, answer_of, counts_after, step_of}
-use Rattle.link.specs.declared.Answer.{Answer}
+use Rattle.link.specs.Answers.{Answer}
 use Rattle.link.specs.declared.Link.{Link}
 use Rattle.demands.specs.Logs.{Log, none, ◌▷◌, heard_of, taken_of}
 use Rattle.demands.specs.Refusals.{Numbered}

@@ -12,7 +12,7 @@ use Rattle.reports.specs.Reporting.{listed}
 use Rattle.reports.specs.declared.Report.{Report}
 use Rattle.link.specs.Stepping.{refused_by}
 use Rattle.link.specs.declared.Link.{Link}
-use Rattle.link.specs.declared.Answer.{Answer}
+use Rattle.link.specs.Answers.{Answer}
 use Rattle.link.specs.Telling.{handled_tells}
 use Rattle.link.proofs.Long.{Long, fresh_long, step_long}
 use Rattle.link.proofs.Four.{four_enough}

@@ -14,7 +14,7 @@ use Rattle.reports.specs.Counting.{zero_counts, is_full}
 use Rattle.reports.specs.declared.Counts.{Counts}
 use Rattle.link.specs.Handling.{fresh_link}
 use Rattle.link.specs.Stepping.{number_of, refused_by, counts_after, step_of}
-use Rattle.link.specs.declared.Answer.{Answer}
+use Rattle.link.specs.Answers.{Answer}
 use Rattle.link.specs.declared.Link.{Link}
 use Rattle.demands.specs.Logs.{Log, clock_of, count_of, number_after, taken_of}
 use Rattle.demands.specs.Refusals.{Not, Unknown, TooLate, Above, Numbered}

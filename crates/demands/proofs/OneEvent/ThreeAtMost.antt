@@ -27,7 +27,7 @@ use Rattle.reports.proofs.Places.{appended_few, listed_most}
 use Rattle.link.specs.Handling.{begun, handled}
 use Rattle.link.specs.Stepping.{number_of, refused_by, taken_by, answer_of, step_of}
 use Rattle.link.specs.declared.Link.{Link}
-use Rattle.link.specs.declared.Answer.{Answer}
+use Rattle.link.specs.Answers.{Answer}
 use Rattle.link.proofs.Walk.{event_walk}
 use Rattle.link.proofs.Four.{three_enough}
 use Rattle.link.proofs.CarLinks.{right_free}

@@ -44,7 +44,7 @@ use Rattle.link.specs.Handling.{passed, hearing, byte_heard, acted, handled, lin
 use Rattle.link.specs.Handling.{begun as begins_run}
 use Rattle.link.specs.Stepping.{refused_by, taken_by}
 use Rattle.link.specs.declared.Link.{Link}
-use Rattle.link.specs.declared.Answer.{Answer}
+use Rattle.link.specs.Answers.{Answer}
 use Rattle.link.specs.Telling.{tells, passed_tells, byte_tells, acted_tells, handled_tells}
 use Rattle.link.proofs.Four.{four_enough}
 use Rattle.demands.specs.Logs.{Log, ◌▷◌, values_of, heard_in, number_after, taken_of, InBytes, Begins, whole, more}

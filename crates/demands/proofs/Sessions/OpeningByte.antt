@@ -42,7 +42,7 @@ use Rattle.reports.specs.declared.Run.{Run}
 use Rattle.link.specs.Handling.{passed, byte_heard, acted, begun, handled, link_after}
 use Rattle.link.specs.Stepping.{taken_by}
 use Rattle.link.specs.declared.Link.{Link}
-use Rattle.link.specs.declared.Answer.{Answer}
+use Rattle.link.specs.Answers.{Answer}
 use Rattle.link.specs.Telling.{tells, passed_tells, acted_tells, handled_tells}
 use Rattle.link.proofs.Walk.{moved_phase}
 use Rattle.reports.specs.Reporting.{moved}

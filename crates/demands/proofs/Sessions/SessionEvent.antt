@@ -31,7 +31,7 @@ use Rattle.reports.specs.declared.Run.{Run}
 use Rattle.link.specs.Handling.{passed, hearing, begun, handled, link_after}
 use Rattle.link.specs.Stepping.{refused_by, taken_by}
 use Rattle.link.specs.declared.Link.{Link}
-use Rattle.link.specs.declared.Answer.{Answer}
+use Rattle.link.specs.Answers.{Answer}
 use Rattle.link.specs.Telling.{tells, passed_tells, handled_tells}
 use Rattle.link.proofs.Walk.{moved_phase, Reached, Here, act_walk_by}
 use Rattle.link.proofs.Four.{four_enough}

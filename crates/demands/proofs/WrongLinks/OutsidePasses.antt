@@ -25,7 +25,7 @@ use Rattle.reports.specs.declared.Counts.{Counts}
 use Rattle.link.specs.Handling.{fresh_link, mark_after}
 use Rattle.link.specs.Stepping.{number_of, refused_by, counts_after, step_of}
 use Rattle.link.specs.declared.Link.{Link}
-use Rattle.link.specs.declared.Stepped.{Stepped}
+use Rattle.link.specs.Answers.{Stepped}
 use Rattle.listing.specs.Listing.{held_of}
 use Rattle.demands.specs.Logs.{Log, none, ◌▷◌, clock_of, mark_of, count_of, heard_of, heard_in, number_after, taken_of}
 use Rattle.demands.specs.Histories.{Host, kept, after, answer_with, reports_of}

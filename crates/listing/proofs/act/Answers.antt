@@ -1,6 +1,10 @@
--- A line has ended: its event makes a step. Assumes nothing.
-use Rattle.listing.proofs.Laws.{acted}
+-- A line has ended: its event makes a step, and its reports are written, or its refusal. Assumes nothing.
+use Rattle.listing.proofs.Laws.{acted_taken, acted_refused}
 use Rattle.listing.proofs.act.Goals as goal
 
-pub returns : goal.returns
-returns c = acted _ _ _ _ _ _ _ _ _ c.step-t.ensures c.begin.ensures c.put_answer-put.ensures
+pub returns-in-Ok : goal.returns-in-Ok
+returns-in-Ok c = acted_taken _ _ _ _ _ c.in-Ok.t _ _ _ c.in-Ok.ensures c.begin-reading.ensures c.requires c.put_reports.ensures
+
+pub returns-in-Err : goal.returns-in-Err
+returns-in-Err c =
+    acted_refused _ _ _ _ _ c.in-Err.why _ _ _ c.in-Err.ensures c.begin-reading.ensures c.requires (rw c.into.ensures at c.put_refusal.ensures)

@@ -9,7 +9,7 @@ use Rattle.frame.specs.Build.{place_in, planned, size_of, build_no, built_as, bu
 use Rattle.frame.specs.declared.Place.{Place}
 use Rattle.frame.specs.declared.Plan.{Plan}
 use Rattle.frame.proofs.Announced.{writable}
-use Rattle.frame.proofs.Answered.{not_taken}
+use Rattle.base.proofs.Refusals.{not_taken}
 use Rattle.frame.proofs.builder.build.Goals as goal
 
 module _ (p : Plan) (bytes out : List ℕ) where
