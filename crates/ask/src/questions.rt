@@ -1,6 +1,6 @@
 // The questions. Each reads its words one after another, asks the function that it is about, and
 // writes the answer; `None` where a word is not there, and so there is no question. One more question
-// is a function like these, and a line of `ask`.
+// is a function like these, and two lines of `ask`.
 use crate::lent;
 use base::Refusal;
 use keys::Pair;
@@ -69,7 +69,7 @@ fn put_built(plan: frame::Plan, data: &[u8], room: &mut [u8], out: &mut [u8], at
             let y = words::put_number(out, x, n as u64, SPACE);
             words::put_bytes(out, y, &room[..n], LINE_FEED)
         }
-        Err(why) => put_no(out, at, why as u8),
+        Err(why) => put_no(out, at, why.into()),
     }
 }
 
@@ -116,12 +116,12 @@ fn put_form(out: &mut [u8], at: usize, form: u8, target: u8, source: u8) -> usiz
 fn put_reading(pair: Pair, s: &[u8], out: &mut [u8], at: usize) -> usize {
     match frame::read(pair, s) {
         Ok(r) => {
-            let a = put_form(out, at, r.form as u8, r.target, r.source);
+            let a = put_form(out, at, frame::number_of(r.form), r.target, r.source);
             let b = words::put_number(out, a, r.start as u64, SPACE);
             let c = words::put_number(out, b, r.len as u64, SPACE);
             words::put_bytes(out, c, frame::contents(pair, s), LINE_FEED)
         }
-        Err(why) => put_no(out, at, why as u8),
+        Err(why) => put_no(out, at, why.into()),
     }
 }
 
@@ -254,18 +254,24 @@ fn ask_minus(s: &[u8], from: usize, out: &mut [u8], at: usize) -> Option<usize> 
     Some(words::put_byte(out, a, starts::inverse(x.value), LINE_FEED))
 }
 
-// The answer to a question, by its first word, which a space ends.
+// The answer to a question, by its first word.
 fn ask(s: &[u8], out: &mut [u8], at: usize) -> Option<usize> {
-    let from = s.iter().position(|b| *b == SPACE)?;
-    match &s[..from] {
-        b"good" => ask_good(s, from, out, at),
-        b"build" => ask_build(s, from, out, at),
-        b"read" => ask_read(s, from, out, at),
-        b"codes" => ask_codes(s, from, out, at),
-        b"windows" => ask_windows(s, from, out, at),
-        b"set" => ask_set(s, from, out, at),
-        b"minus" => ask_minus(s, from, out, at),
-        _ => None,
+    if let Some(from) = words::read_first(s, b"good") {
+        ask_good(s, from, out, at)
+    } else if let Some(from) = words::read_first(s, b"build") {
+        ask_build(s, from, out, at)
+    } else if let Some(from) = words::read_first(s, b"read") {
+        ask_read(s, from, out, at)
+    } else if let Some(from) = words::read_first(s, b"codes") {
+        ask_codes(s, from, out, at)
+    } else if let Some(from) = words::read_first(s, b"windows") {
+        ask_windows(s, from, out, at)
+    } else if let Some(from) = words::read_first(s, b"set") {
+        ask_set(s, from, out, at)
+    } else if let Some(from) = words::read_first(s, b"minus") {
+        ask_minus(s, from, out, at)
+    } else {
+        None
     }
 }
 

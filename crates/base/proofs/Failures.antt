@@ -4,6 +4,7 @@ use mathlib.Core.Bool.{false}
 use native.Mathlib.Omega.{arith}
 use Rattle.std.specs.Prelude.{ℕ, Result, Ok, Err, eqb, if◌then◌else◌}
 use Rattle.base.specs.Reports.{no_reason}
+use Rattle.base.proofs.One.{Only, only}
 use Rattle.base.specs.Failures.{failure_number, failure_no}
 use Rattle.base.specs.declared.reason.Failure.{Failure}
 use Rattle.base.specs.declared.reason.Failure.TheVariants.{WindowOver, Closed, WrongLow, WrongSide, TooEarly, Misfit}
@@ -54,3 +55,7 @@ one_outcome (Ok a) (Ok b) e = refl
 one_outcome (Ok a) (Err why) e = absurd (not_none why (sym e))
 one_outcome (Err why) (Ok b) e = absurd (not_none why e)
 one_outcome (Err why) (Err other) e = ap Err (one_failure why other e)
+
+-- any two results that meet the promise of `u8::from` are equal
+pub failure : (why : Failure) → Only (λ (n : ℕ). n ≡ failure_number why)
+failure why = only (failure_number why)

@@ -5,6 +5,7 @@ use mathlib.Core.Bool.{false}
 use native.Mathlib.Omega.{arith}
 use Rattle.std.specs.Prelude.{ℕ, Option, Some, None, eqb, if◌then◌else◌}
 use Rattle.base.specs.Reports.{no_reason}
+use Rattle.base.proofs.One.{Only, only}
 use Rattle.base.specs.Reasons.{damage_number, down_number, why_of}
 use Rattle.base.specs.declared.reason.Damage.{Damage}
 use Rattle.base.specs.declared.reason.Damage.TheVariants.{BrokenOff, Closed, Early, Stray, ModeOne, WrongForm, OtherSide, WrongLength, WrongSum}
@@ -86,3 +87,10 @@ one_why None None e = refl
 one_why None (Some why) e = absurd (not_none why (sym e))
 one_why (Some why) None e = absurd (not_none why e)
 one_why (Some why) (Some other) e = ap Some (one_damage why other e)
+
+-- any two results that meet the promise of `u8::from` are equal
+pub damage : (why : Damage) → Only (λ (n : ℕ). n ≡ damage_number why)
+damage why = only (damage_number why)
+
+pub down : (why : Down) → Only (λ (n : ℕ). n ≡ down_number why)
+down why = only (down_number why)

@@ -13,13 +13,17 @@ use reports::Counts;
 
 // A step of a link with the counts that the host lends: the answer to the event, and the counts
 // brought up to date. A refusal leaves them as they are.
-#[tactic(auto, unfolding(link::specs::Stepping::step_of), using(link::proofs::Answered::step_counts))]
+#[tactic(auto, unfolding(link::specs::Stepping::step_of), using(link::proofs::Answered::step_counts, link::proofs::Answered::step_kept))]
 pub fn step(counts: &mut Counts, l: Link, e: Event) -> Result<Answer, Refusal>
     ensures { Steps l counts.old e (answered_as l result) counts.new }
 {
-    let answer = link::respond(l, *counts, e);
-    *counts = link::counted(*counts, answer, e);
-    answer
+    match link::respond(l, *counts, e) {
+        Ok(answer) => {
+            *counts = link::counted::<Refusal>(*counts, Ok(answer), e);
+            Ok(answer)
+        }
+        Err(why) => Err(why),
+    }
 }
 
 // A step with counts of the caller's own: they are lent for the step, and handed back with its

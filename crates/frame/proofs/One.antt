@@ -7,7 +7,7 @@ use Rattle.std.specs.Prelude.{Result}
 use Rattle.base.specs.declared.Refusal.{Refusal}
 use Rattle.base.proofs.One.{Only, only}
 use Rattle.keys.specs.declared.Form.{Form}
-use Rattle.frame.specs.Layout.{format_form}
+use Rattle.frame.specs.Layout.{format_form, number_of}
 use Rattle.frame.specs.Build.{built_as, Builds}
 use Rattle.frame.specs.Read.{read_as, read_of, data_of, DataIn}
 use Rattle.frame.specs.declared.Frame.{Frame}
@@ -16,6 +16,9 @@ use Rattle.frame.proofs.Answered.{one_built, one_read}
 
 pub format_form_lem : (f : ℕ) → Only (λ (r : Form). r ≡ format_form f)
 format_form_lem f = only (format_form f)
+
+pub number_of_lem : (form : Form) → Only (λ (r : ℕ). r ≡ number_of form)
+number_of_lem form = only (number_of form)
 
 -- the answer and the buffer
 pub build : (p : Plan) (bytes out : List ℕ) → Only (λ (x : Result ℕ Refusal × List ℕ). Builds p bytes out (built_as x.0) x.1)

@@ -1,6 +1,6 @@
--- Document 01's builder, which knew no choice: what `build` promised before document 02's Two, word for word, with `place_for`, `not_built` and `over`, which
--- stayed in Build.antt. It puts the length where the frame is shortest, and looks at no choice. `build` is proved to answer so under the choice 0
--- (proofs/Shortest.antt). Assumes nothing.
+-- Document 01's builder, which knew no choice: what `build` promised before document 02's Two, word for word (the types are today's: a plan holds its key
+-- bytes as a `pair`), with `place_for`, `not_built` and `over`, which stayed in Build.antt. It puts the length where the frame is shortest, and looks at no
+-- choice. `build` is proved to answer so under the choice 0 (proofs/Shortest.antt). Assumes nothing.
 use Rattle.std.specs.Prelude.{◌≡◌, ℕ, ◌+◌, not, List, length, eqb, ltb, if◌then◌else◌}
 use Rattle.base.specs.Numbers.{taken, bad_keys, bad_form, bad_length, no_room}
 use Rattle.keys.specs.Keys.{good_pair, takes_form}

@@ -1,6 +1,6 @@
 // A frame's layout, which building and reading share: forms, places, sizes, the checksum.
 ghost use Rattle.std.specs.Prelude.{◌≡◌};
-ghost use Rattle.frame.specs.Layout.{form_numbered, top_bits, format_form, low_bits};
+ghost use Rattle.frame.specs.Layout.{form_numbered, number_of, top_bits, format_form, low_bits};
 ghost use Rattle.frame.specs.Layout.{address_count, extra_count, head_size, checksum_of, carried};
 
 use crate::Place;
@@ -16,6 +16,18 @@ pub(crate) fn form_numbered(n: u8) -> Form
         1 => Form::Physical,
         2 => Form::Functional,
         _ => Form::Foreign,
+    }
+}
+
+// The number of a form: 0 none, 1 physical, 2 functional, and 3 for what is none of ours.
+pub fn number_of(form: Form) -> u8
+    ensures { result ≡ number_of form }
+{
+    match form {
+        Form::Plain => 0,
+        Form::Physical => 1,
+        Form::Functional => 2,
+        Form::Foreign => 3,
     }
 }
 

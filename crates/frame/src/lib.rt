@@ -6,7 +6,7 @@ mod layout;
 mod reader;
 
 pub use builder::build;
-pub use layout::format_form;
+pub use layout::{format_form, number_of};
 pub use reader::{contents, read};
 
 // Where a length stands: in the format byte, or in an extra byte after the addresses.

@@ -1,5 +1,5 @@
 -- A byte's line read at once is what its bytes give one by one.
--- The quick way tests the same letters, digits and spaces at their places; part by part it is what the machine that at Byte byte by byte comes to.
+-- The quick way tests the same letters, digits and spaces at their places; part by part it is what the machine that reads byte by byte comes to.
 -- Assumes nothing.
 use Rattle.std.proofs.Common.{◌≡◌, ℕ, zero, suc, ◌+◌, ◌-◌, ◌*◌, ◌%◌, ◌^◌, ◌<◌, ◌≤◌, Bool, true, false, ◌&&◌, eqb, ltb, leb, List, Some, length, get_or, drop, sym, refl, ap, ◌∙◌, arith, ltb-false, ltb-true, lt-ltb, eqb-true, leb-true}
 use mathlib.Core.Bool.{false≢true}

@@ -58,3 +58,8 @@ pub step_counts : (l : Link) (c : Counts) (e : Event) (r : Result Answer Refusal
 unfolding step_of counts_after
 step_counts l c e (Ok a) h = rw (← h) refl
 step_counts l c e (Err why) h = rw (← h, refused why) refl
+
+-- those that stay at a refusal too
+pub step_kept : (l : Link) (c : Counts) (e : Event) (why : Refusal) → answered_as l (Err why) ≡ answer_of l c e → c ≡ (step_of l c e).counts
+unfolding step_of
+step_kept l c e why h = rw (← h) (counts_refused c e why l)

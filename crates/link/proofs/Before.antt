@@ -2,15 +2,14 @@
 -- definition that has changed, and each that stands on one, under its name with `old` in front. The second half proves that for a link whose pair is no car's each
 -- of them is today's, and so is the step (`same_step`), unless the event is a second key byte that completes 08 08 or 94 94 after address 33.
 -- Assumes nothing.
-use Prim.Native.Nat.{ℕ, ◌+◌, ◌≤◌}
+use Prim.Native.Nat.{ℕ, zero, suc, ◌≤◌}
 use mathlib.Core.Bool.{Bool, true, false, not, ◌&&◌, ◌||◌, false≢true}
-use mathlib.Core.List.{List}
+use mathlib.Core.List.{List, [], ◌∷◌}
 use mathlib.Core.Path.{◌≡◌, ◌∙◌, refl, sym, ap, subst}
 use native.Mathlib.Omega.{arith}
-use borrow.Author.Tests.{eqb-true, ltb-true, ltb-false}
+use borrow.Author.Tests.{eqb-true}
 use lib.Dec.{eqb, ltb}
-use lib.ListN.{take, set, length-set}
-use Rattle.std.proofs.lemmas.List.{take-take}
+use lib.ListN.{length, take, get_or, set, length-set}
 use Rattle.std.specs.Prelude.{if◌then◌else◌}
 use Rattle.base.specs.Numbers.{taken}
 use Rattle.base.specs.Reports.{frame_report, damage_report, connected_report, failed_report, outside_report}
@@ -55,7 +54,7 @@ use Rattle.moves.specs.Moves.{starting_slow, starting_fast, is_cut_in, before_by
 use Rattle.moves.specs.declared.Move.{Move}
 use Rattle.moves.proofs.Rules.{at_silence, at_p2, at_p3, at_window, Rule, rests, ends_right, breaks_off, waited, idled, expires}
 use Rattle.moves.proofs.Rules.{by_silence, by_p2, by_p3, by_window}
-use Rattle.reports.specs.Reporting.{places, names_bytes, report_of, appended, listed, told, with_phase, moved}
+use Rattle.reports.specs.Reporting.{places, no_report, names_bytes, report_of, appended, listed, told, with_phase, moved}
 use Rattle.reports.specs.Counting.{counted_all, counted_byte, counted_event}
 use Rattle.reports.specs.declared.Report.{Report}
 use Rattle.reports.specs.declared.Reports.{Reports}
@@ -216,18 +215,21 @@ old_byte_in Damage p side v mark start = still p
 unfoldable pub old_after_byte : Phase → Side → ℕ → Micros → Micros → Move
 old_after_byte p side v mark start = old_byte_in p.state p side v mark start
 
--- ---- reports: three places, and the fourth stays as it is
-abbrev pub old_places : ℕ
-old_places = 3
+-- ---- reports: three places, and the fourth stays as it is. (The places are a list today, which the old text had by name.)
+abbrev in_place : ℕ → Reports → Report → List Report
+in_place i rs r = set rs.places i r
+
+abbrev still_full : (i : ℕ) (rs : Reports) (r : Report) → length (in_place i rs r) ≡ 4
+still_full i rs r = length-set rs.places i r ∙ rs.full
 
 unfoldable pub old_appended : Reports → Report → Reports
 old_appended rs r =
-    if ltb rs.n old_places
-    then record { places = set rs.places rs.n r; n = rs.n + 1; full = length-set rs.places rs.n r ∙ rs.full }
-    else rs
+    if eqb rs.n 0 then record { places = in_place 0 rs r; n = 1; full = still_full 0 rs r } else
+    if eqb rs.n 1 then record { places = in_place 1 rs r; n = 2; full = still_full 1 rs r } else
+    if eqb rs.n 2 then record { places = in_place 2 rs r; n = 3; full = still_full 2 rs r } else rs
 
 abbrev pub old_in_places : Reports → List Report
-old_in_places rs = take old_places rs.places
+old_in_places rs = get_or rs.places 0 no_report ∷ get_or rs.places 1 no_report ∷ get_or rs.places 2 no_report ∷ []
 
 unfoldable pub old_listed : Reports → List Report
 old_listed rs = take rs.n (old_in_places rs)
@@ -496,18 +498,20 @@ appended_more : (rs : Reports) (x : Report) → NoFewer rs (appended rs x)
 unfolding appended
 appended_more rs x = by_test (NoFewer rs) (ltb rs.n places) (λ _. omega arith) (λ _. omega arith)
 
-appended_by : (b d : Bool) (rs : Reports) (x : Report) → ltb rs.n places ≡ b → ltb rs.n old_places ≡ d → (appended rs x).n ≤ 3
-    → appended rs x ≡ old_appended rs x
+abbrev so_many : (ps : List Report) → length ps ≡ 4 → ℕ → Reports
+so_many ps full n = record { places = ps; n = n; full = full }
+
+appended_at : (ps : List Report) (full : length ps ≡ 4) (x : Report) (n : ℕ) → (appended (so_many ps full n) x).n ≤ 3
+    → appended (so_many ps full n) x ≡ old_appended (so_many ps full n) x
 unfolding appended old_appended
-appended_by true true rs x p q h = rw (p, q) refl
-appended_by true false rs x p q h =
-    let k : rs.n + 1 ≤ 3 = rw p at h in
-    absurd (omega (arith, ltb-false rs.n old_places q))
-appended_by false true rs x p q h = absurd (omega (arith, ltb-false rs.n places p, ltb-true rs.n old_places q))
-appended_by false false rs x p q h = rw (p, q) refl
+appended_at ps full x zero h = refl
+appended_at ps full x (suc zero) h = refl
+appended_at ps full x (suc (suc zero)) h = refl
+appended_at ps full x (suc (suc (suc zero))) h = absurd (omega arith)
+appended_at ps full x (suc (suc (suc (suc n)))) h = absurd (omega (arith, appended_more (so_many ps full (suc (suc (suc (suc n))))) x))
 
 pub same_appended : (rs : Reports) (x : Report) → (appended rs x).n ≤ 3 → appended rs x ≡ old_appended rs x
-same_appended rs x h = appended_by (ltb rs.n places) (ltb rs.n old_places) rs x refl refl h
+same_appended rs x h = appended_at rs.places rs.full x rs.n h
 
 moved_more : (r : Run) (m : Move) → NoFewer r.reports (moved r m).reports
 unfolding moved told
@@ -525,10 +529,25 @@ moved_by false r m q h =
 pub same_moved : (r : Run) (m : Move) → (moved r m).reports.n ≤ 3 → moved r m ≡ old_moved r m
 same_moved r m h = moved_by (eqb m.number 0) r m refl h
 
+listed_in : (a b c d : Report) (n : ℕ) → n ≤ 3 → take n (a ∷ b ∷ c ∷ d ∷ []) ≡ take n (a ∷ b ∷ c ∷ [])
+listed_in a b c d zero h = refl
+listed_in a b c d (suc zero) h = refl
+listed_in a b c d (suc (suc zero)) h = refl
+listed_in a b c d (suc (suc (suc zero))) h = refl
+listed_in a b c d (suc (suc (suc (suc n)))) h = absurd (omega arith)
+
+listed_at : (ps : List Report) (full : length ps ≡ 4) (n : ℕ) → n ≤ 3 → listed (so_many ps full n) ≡ old_listed (so_many ps full n)
+unfolding listed old_listed
+listed_at (a ∷ b ∷ c ∷ d ∷ []) full n h = listed_in a b c d n h
+listed_at [] full n h = absurd (omega (arith, full))
+listed_at (a ∷ []) full n h = absurd (omega (arith, full))
+listed_at (a ∷ b ∷ []) full n h = absurd (omega (arith, full))
+listed_at (a ∷ b ∷ c ∷ []) full n h = absurd (omega (arith, full))
+listed_at (a ∷ b ∷ c ∷ d ∷ e ∷ ps) full n h = absurd (omega (arith, full))
+
 -- the reports of an event, and how they are counted
 pub same_listed : (rs : Reports) → rs.n ≤ 3 → listed rs ≡ old_listed rs
-unfolding listed old_listed
-same_listed rs h = sym (take-take rs.n old_places rs.places h)
+same_listed rs h = listed_at rs.places rs.full rs.n h
 
 pub same_counted : (c : Counts) (hears : Bool) (rs : Reports) → rs.n ≤ 3 → counted_event c hears rs ≡ old_counted_event c hears rs
 unfolding counted_event old_counted_event

@@ -8,6 +8,7 @@ ghost use Rattle.listing.specs.Listing.{fresh_lister, held_of, ending_of};
 ghost use Rattle.listing.specs.Parts.{answer_most, ending_most, Parted};
 ghost use Rattle.listing.specs.Turns.{Acted, reading_after, RowAt, Glided, Stretched, Turned, Ended};
 
+use base::Refusal;
 use events::Event;
 use lines::{Got, Reading, Row};
 use link::Link;
@@ -64,12 +65,13 @@ fn act(part: Part, e: Event, out: &mut [u8]) -> Part
     ensures { Acted part.lister e part.at part.put out.old result out.new }
 {
     let reading = lines::begin();
-    match link::step(part.lister.link, part.lister.counts, e) {
-        Ok(t) => Part {
-            put: text::put_reports(out, part.put, t.answer.reports),
+    let counts = part.lister.counts;
+    match link::respond(part.lister.link, counts, e) {
+        Ok(a) => Part {
+            put: text::put_reports(out, part.put, a.reports),
             lister: Lister {
-                link: t.answer.link,
-                counts: t.counts,
+                link: a.link,
+                counts: link::counted::<Refusal>(counts, Ok(a), e),
                 reading,
             },
             ..part

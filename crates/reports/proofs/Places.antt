@@ -1,18 +1,28 @@
 -- The places for reports: which reports are listed, by their number n, and that one which finds a place becomes the last of the list. Assumes nothing.
 use Prim.Native.Nat.{ℕ, ◌+◌, ◌≤◌, ◌<◌}
-use mathlib.Core.Path.{◌≡◌, refl}
+use mathlib.Core.Path.{◌≡◌, refl, ap}
 use mathlib.Core.List.{List, [], ◌∷◌, ◌++◌}
 use lib.Dec.{ltb}
 use lib.ListN.{length, take, drop, get_or, length-take}
 use borrow.Author.Tests.{lt-ltb, ltb-true}
 use native.Mathlib.Omega.{arith}
-use Rattle.std.proofs.lemmas.List.{take_more_set, get_or-take, at_drop_more, drop_all}
+use Rattle.std.proofs.lemmas.List.{take_all, take_more_set, get_or-take, at_drop_more, drop_all}
 use Rattle.base.proofs.Tests.{by_test}
-use Rattle.reports.specs.Reporting.{places, appended, listed}
+use Rattle.reports.specs.Reporting.{places, in_places, appended, listed}
 use Rattle.reports.specs.declared.Report.{Report}
 use Rattle.reports.specs.declared.Reports.{Reports}
 
--- ---- which reports are listed: never more than there are places, nor than their number
+-- ---- which reports are listed: so many as their number says, ..
+pub listed_first : (rs : Reports) (k : ℕ) → rs.n ≡ k → listed rs ≡ take k (in_places rs)
+unfolding listed
+listed_first rs k e = ap (λ (m : ℕ). take m (in_places rs)) e
+
+-- .. and all where it asks no further
+pub listed_all : (rs : Reports) → places ≤ rs.n → listed rs ≡ in_places rs
+unfolding listed
+listed_all rs h = take_all rs.n (in_places rs) (omega (arith, rs.full, h))
+
+-- never more than there are places, nor than their number
 pub listed_few : (rs : Reports) → length (listed rs) ≤ places
 unfolding listed
 listed_few rs = rw (length-take) (omega arith)

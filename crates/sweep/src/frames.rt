@@ -89,7 +89,7 @@ fn read_case(t: Tally, pair: Pair, s: &[u8]) -> Tally {
     let read = frame::read(pair, s);
     let (first, place) = match read {
         Ok(f) => (
-            f.form as u64 * 65536 + f.target as u64 * 256 + f.source as u64,
+            frame::number_of(f.form) as u64 * 65536 + f.target as u64 * 256 + f.source as u64,
             (f.start as u64 % 65536) * 65536 + f.len as u64 % 65536,
         ),
         Err(why) => (u64::from(u8::from(why)) << 24, 0),

@@ -52,12 +52,12 @@ spaced_more at xs n out a o1 r o2 h u w =
     rw (e, ← (spaced_append xs n)) j
 
 -- .. and the last, with a line feed after it
-spaced_line : (xs : List ℕ) (y : ℕ) → spaced_text xs ++ line_text (y ∷ []) ≡ line_text (xs ++ (y ∷ []))
+pub spaced_line : (xs : List ℕ) (y : ℕ) (ys : List ℕ) → spaced_text xs ++ line_text (y ∷ ys) ≡ line_text (xs ++ (y ∷ ys))
 unfolding spaced_text line_text
-spaced_line [] y = refl
-spaced_line (x ∷ []) y = append_assoc (number_text x space) [] (line_text (y ∷ []))
-spaced_line (x ∷ z ∷ xs) y =
-    append_assoc (number_text x space) (spaced_text (z ∷ xs)) (line_text (y ∷ [])) ∙ ap (λ l. number_text x space ++ l) (spaced_line (z ∷ xs) y)
+spaced_line [] y ys = refl
+spaced_line (x ∷ []) y ys = append_assoc (number_text x space) [] (line_text (y ∷ ys))
+spaced_line (x ∷ z ∷ xs) y ys =
+    append_assoc (number_text x space) (spaced_text (z ∷ xs)) (line_text (y ∷ ys)) ∙ ap (λ l. number_text x space ++ l) (spaced_line (z ∷ xs) y ys)
 
 pub line_put : (at : ℕ) (xs : List ℕ) (y : ℕ) (out : List ℕ) (a : ℕ) (o1 : List ℕ) (r : ℕ) (o2 : List ℕ) → at + (length xs + 1) * number_most ≤ length out
     → Spaced at xs out a o1 → Writes (number_text y line_feed) number_most a o1 r o2 → Puts at (line_text (xs ++ (y ∷ []))) ((length xs + 1) * number_most) out r o2
@@ -66,7 +66,7 @@ line_put at xs y out a o1 r o2 h u w =
     let v = number_put a y line_feed o1 r o2 (omega (arith, u.place, u.small, u.kept)) w in
     let j = puts_join at (spaced_text xs) (number_text y line_feed) (length xs * number_most) number_most out a o1 r o2 (omega arith) u v in
     let e : (length xs + 1) * number_most ≡ length xs * number_most + number_most = omega arith in
-    rw (e, ← (spaced_line xs y)) j
+    rw (e, ← (spaced_line xs y [])) j
 
 -- a word, and the line after it
 pub text_put : (at : ℕ) (s out : List ℕ) (r : ℕ) (after : List ℕ) → at + length s ≤ length out → Writes s (length s) at out r after → Puts at s (length s) out r after
