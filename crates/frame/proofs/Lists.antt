@@ -1,12 +1,12 @@
 -- Bytes written into a buffer one after another, and sums of bytes. Assumes nothing.
 use mathlib.Core.Path.{◌≡◌, sym, ap, ◌∙◌}
-use mathlib.Core.List.{List, [], ◌∷◌, ◌++◌, append_assoc}
+use mathlib.Core.List.{List, [], ◌∷◌, ◌++◌, append_assoc, append-nil}
 use Prim.Native.Nat.{ℕ, ◌+◌, ◌-◌, ◌%◌, ◌<◌, ◌≤◌}
 use native.Mathlib.Nat.{add-zero, zero-add, add_assoc}
 use native.Mathlib.Omega.{arith}
 use borrow.Rule.Slice.PartMut.{put_mid}
-use lib.ListN.{length, take, drop, length-append}
-use lib.Seq.{sets, sets-eq, take-append_seam, drop-append-add, drop-drop}
+use lib.ListN.{length, take, drop, length-append, length-drop, take-append-drop, drop_of_length-le}
+use lib.Seq.{sets, sets-eq, take-append_seam, drop-append-add, drop-drop, take_all, take-length}
 use Rattle.std.specs.Prelude.{fold}
 use Rattle.frame.specs.Layout.{total, checksum_of}
 use Rattle.frame.specs.Build.{put, over}
@@ -14,6 +14,10 @@ use Rattle.frame.specs.Build.{put, over}
 -- stores one after another from an index on
 pub stored : (at : ℕ) (vs out : List ℕ) → at + length vs ≤ length out → sets out at vs ≡ put at vs out
 stored at vs out h = sets-eq vs out at h ∙ append_assoc (take at out) vs (drop (at + length vs) out)
+
+-- nothing written leaves all as it was
+pub put_nothing : (at : ℕ) (out : List ℕ) → out ≡ put at [] out
+put_nothing at out = sym (ap (λ (k : ℕ). take at out ++ drop k out) (add-zero at) ∙ take-append-drop at out)
 
 -- the front of what was written over
 pub over_front : (p out : List ℕ) → take (length p) (over p out) ≡ p
@@ -32,6 +36,23 @@ put_over p s out o at ea eo =
 pub copied : (src out now : List ℕ) (h : ℕ) → now ≡ src → put_mid h (h + length src - h) out now ≡ put h src out
 copied src out now h e =
     rw e (ap (λ (l : List ℕ). take h out ++ (src ++ l)) (drop-drop (h + length src - h) h out ∙ ap (λ (k : ℕ). drop k out) (omega arith)))
+
+-- the same of a part that goes on to the end: what is behind src stays
+pub copied_over : (src out last : List ℕ) (h : ℕ) → h + length src ≤ length out
+    → last ≡ take (length src) src ++ drop (length src) (take (length out - h) (drop h out)) → put_mid h (length out - h) out last ≡ put h src out
+copied_over src out last h fits e =
+    rw (
+      e,
+      take-length src,
+      take_all (length out - h) (drop h out) (omega (arith, length-drop h out)),
+      drop-drop (length src) h out,
+      drop-drop (length out - h) h out,
+    )
+    (ap (λ (l : List ℕ). take h out ++ l) (append_assoc src (drop (h + length src) out) (drop (h + (length out - h)) out)
+    ∙ ap (λ (l : List ℕ). src ++ l) (rest (drop (h + length src) out) (h + (length out - h)) (omega arith))))
+  where
+    rest : (l : List ℕ) (k : ℕ) → length out ≤ k → l ++ drop k out ≡ l
+    rest l k g = rw (drop_of_length-le out {i = k} g) (append-nil l)
 
 -- sums
 pub total_append : (a b : List ℕ) → total (a ++ b) ≡ total a + total b

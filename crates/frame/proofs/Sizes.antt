@@ -1,6 +1,6 @@
 -- How many bytes the parts of a frame are. Assumes nothing.
 use mathlib.Core.Path.{◌≡◌, refl, ap, ◌∙◌}
-use mathlib.Core.List.{List, []}
+use mathlib.Core.List.{List, [], ◌∷◌}
 use Prim.Native.Nat.{ℕ, ◌+◌, ◌≤◌}
 use native.Mathlib.Omega.{arith}
 use lib.ListN.{length, length-append}
@@ -69,6 +69,25 @@ no_addresses_lem Plain t s e = refl
 no_addresses_lem Physical t s e = absurd (omega arith)
 no_addresses_lem Functional t s e = absurd (omega arith)
 no_addresses_lem Foreign t s e = refl
+
+pub two_addresses : (form : Form) (t s : ℕ) → (address_count form ≡ 0 → ⊥) → (address_count form ≡ 2) × (addresses_of form t s ≡ t ∷ s ∷ [])
+unfolding addresses_of address_count
+two_addresses Plain t s h = absurd (h refl)
+two_addresses Physical t s h = (refl, refl)
+two_addresses Functional t s h = (refl, refl)
+two_addresses Foreign t s h = absurd (h refl)
+
+pub no_extra : (place : Option Place) (n : ℕ) → extra_count place ≡ 0 → extra_of place n ≡ []
+unfolding extra_of extra_count
+no_extra (Some Format) n e = refl
+no_extra (Some Extra) n e = absurd (omega arith)
+no_extra None n e = refl
+
+pub one_extra : (place : Option Place) (n : ℕ) → (extra_count place ≡ 0 → ⊥) → (extra_count place ≡ 1) × (extra_of place n ≡ n ∷ [])
+unfolding extra_of extra_count
+one_extra (Some Format) n h = absurd (h refl)
+one_extra (Some Extra) n h = (refl, refl)
+one_extra None n h = absurd (h refl)
 
 -- the low six bits hold a length that goes there
 pub low_le : (place : Option Place) (n : ℕ) → (place ≡ Some Format → n ≤ 63) → low_bits place n ≤ 63

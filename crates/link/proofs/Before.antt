@@ -498,17 +498,17 @@ appended_more : (rs : Reports) (x : Report) → NoFewer rs (appended rs x)
 unfolding appended
 appended_more rs x = by_test (NoFewer rs) (ltb rs.n places) (λ _. omega arith) (λ _. omega arith)
 
-abbrev so_many : (ps : List Report) → length ps ≡ 4 → ℕ → Reports
-so_many ps full n = record { places = ps; n = n; full = full }
+abbrev four_places : (ps : List Report) → length ps ≡ 4 → ℕ → Reports
+four_places ps full n = record { places = ps; n = n; full = full }
 
-appended_at : (ps : List Report) (full : length ps ≡ 4) (x : Report) (n : ℕ) → (appended (so_many ps full n) x).n ≤ 3
-    → appended (so_many ps full n) x ≡ old_appended (so_many ps full n) x
+appended_at : (ps : List Report) (full : length ps ≡ 4) (x : Report) (n : ℕ) → (appended (four_places ps full n) x).n ≤ 3
+    → appended (four_places ps full n) x ≡ old_appended (four_places ps full n) x
 unfolding appended old_appended
 appended_at ps full x zero h = refl
 appended_at ps full x (suc zero) h = refl
 appended_at ps full x (suc (suc zero)) h = refl
 appended_at ps full x (suc (suc (suc zero))) h = absurd (omega arith)
-appended_at ps full x (suc (suc (suc (suc n)))) h = absurd (omega (arith, appended_more (so_many ps full (suc (suc (suc (suc n))))) x))
+appended_at ps full x (suc (suc (suc (suc n)))) h = absurd (omega (arith, appended_more (four_places ps full (suc (suc (suc (suc n))))) x))
 
 pub same_appended : (rs : Reports) (x : Report) → (appended rs x).n ≤ 3 → appended rs x ≡ old_appended rs x
 same_appended rs x h = appended_at rs.places rs.full x rs.n h
@@ -536,7 +536,7 @@ listed_in a b c d (suc (suc zero)) h = refl
 listed_in a b c d (suc (suc (suc zero))) h = refl
 listed_in a b c d (suc (suc (suc (suc n)))) h = absurd (omega arith)
 
-listed_at : (ps : List Report) (full : length ps ≡ 4) (n : ℕ) → n ≤ 3 → listed (so_many ps full n) ≡ old_listed (so_many ps full n)
+listed_at : (ps : List Report) (full : length ps ≡ 4) (n : ℕ) → n ≤ 3 → listed (four_places ps full n) ≡ old_listed (four_places ps full n)
 unfolding listed old_listed
 listed_at (a ∷ b ∷ c ∷ d ∷ []) full n h = listed_in a b c d n h
 listed_at [] full n h = absurd (omega (arith, full))

@@ -58,6 +58,9 @@ placed rs x h =
     let t = lt-ltb rs.n places h in
     record { last = rw t (take_more_set rs.places rs.n x room); more = rw t refl }
 
+placed_at : (ps : List Report) (full : length ps ≡ 4) (x : Report) (n : ℕ) → n < places → Placed (record { places = ps; n = n; full = full }) x
+placed_at ps full x n h = placed (record { places = ps; n = n; full = full }) x h
+
 -- .. and no more places are filled than there are
 abbrev Few : Reports → Type 0
 Few rs = rs.n ≤ places

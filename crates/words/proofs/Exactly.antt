@@ -46,3 +46,26 @@ number_none s at most w e h = rw (e, eq-eqb (run_of is_digit (drop w s)) 0 h)
 pub number_unspaced : (s : List ℕ) (at most : ℕ) → start_of s at ≡ None → number_at s at most ≡ None
 unfolding number_at
 number_unspaced s at most h = rw h
+
+-- a number is read where its word starts
+pub number_by_lem : (s : List ℕ) (at most w : ℕ) → start_of s at ≡ Some w → number_at s at most ≡ number_in s most w
+unfolding number_at
+number_by_lem s at most w e = rw e refl
+
+-- whether a word starts there or none: no number is read where what starts is above the bound, ..
+above_from : (s : List ℕ) (at most : ℕ) (o : Option ℕ) → start_of s at ≡ o → ((w : ℕ) → start_of s at ≡ Some w → most < number_by 0 (drop w s))
+    → number_at s at most ≡ None
+above_from s at most None e h = number_unspaced s at most e
+above_from s at most (Some w) e h = number_above s at most w e (h w e)
+
+pub number_too_great : (s : List ℕ) (at most : ℕ) → ((w : ℕ) → start_of s at ≡ Some w → most < number_by 0 (drop w s)) → number_at s at most ≡ None
+number_too_great s at most h = above_from s at most (start_of s at) refl h
+
+-- .. nor where it has no digit
+none_from : (s : List ℕ) (at most : ℕ) (o : Option ℕ) → start_of s at ≡ o → ((w : ℕ) → start_of s at ≡ Some w → run_of is_digit (drop w s) ≡ 0)
+    → number_at s at most ≡ None
+none_from s at most None e h = number_unspaced s at most e
+none_from s at most (Some w) e h = number_none s at most w e (h w e)
+
+pub number_no_digit : (s : List ℕ) (at most : ℕ) → ((w : ℕ) → start_of s at ≡ Some w → run_of is_digit (drop w s) ≡ 0) → number_at s at most ≡ None
+number_no_digit s at most h = none_from s at most (start_of s at) refl h
