@@ -17,8 +17,8 @@ use reports::Counts;
 pub fn step(counts: &mut Counts, l: Link, e: Event) -> Result<Answer, Refusal>
     ensures { Steps l counts.old e (answered_as l result) counts.new }
 {
-    // What is refused is not counted at all: an event takes 208 instructions, in place of 317 where
-    // `counted` is asked of an `Err` too.
+    // What is refused is not counted at all: over the list of `bench/step` an event takes 208
+    // instructions, its caller's among them, in place of 317 where `counted` is asked of an `Err` too.
     match link::respond(l, *counts, e) {
         Ok(answer) => {
             *counts = link::counted::<Refusal>(*counts, Ok(answer), e);

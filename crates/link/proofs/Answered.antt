@@ -52,6 +52,12 @@ pub step_refused : (l : Link) (c : Counts) (e : Event) (why : Refusal) → answe
 unfolding step_of
 step_refused l c e why a = rw (← a, ← (counts_refused c e why l)) refl
 
+-- and so does one whose event is taken
+pub step_taken : (l : Link) (c : Counts) (e : Event) (a : Answer) (d : Counts) → answered_as l (Ok a) ≡ answer_of l c e
+    → d ≡ counts_after c (counted_as {R = Refusal} fresh_link (Ok a)) e → stepped_as l c (Ok (record { answer = a; counts = d })) ≡ step_of l c e
+unfolding step_of
+step_taken l c e a d p q = rw (← p, q) refl
+
 -- the counts that an answer leaves are the step's: which link stands beside a refusal is not asked
 pub step_counts : (l : Link) (c : Counts) (e : Event) (r : Result Answer Refusal) → answered_as l r ≡ answer_of l c e
     → counts_after c (counted_as fresh_link r) e ≡ (step_of l c e).counts

@@ -27,6 +27,7 @@ use Rattle.link.specs.Answers.{answered_as, counted_as, stepped_as}
 use Rattle.link.specs.declared.Answer.{Answer}
 use Rattle.link.specs.declared.Stepped.{Stepped}
 use Rattle.base.proofs.Refusals.{not_taken}
+use Rattle.link.proofs.Answered.{step_taken}
 use Rattle.link.proofs.Ways.{runs_on_lem}
 use Rattle.lines.specs.Lines.{fresh_reading, read_byte, is_letter, is_empty}
 use Rattle.lines.specs.Getting.{got_of, ended, cut_off}
@@ -313,11 +314,6 @@ pub tests : (at len n room : ℕ) → (ltb at len && leb n room) ≡ true → (a
 tests at len n room t = let p = and_split (ltb at len) (leb n room) t in (ltb-true at len p.0, leb-true n room p.1)
 
 -- ---- an event's step, and its answer written: its reports, ..
-step_made : (k : Link) (c : Counts) (e : Event) (a : Answer) (d : Counts) → answered_as k (Ok a) ≡ answer_of k c e
-    → d ≡ counts_after c (counted_as {R = Refusal} fresh_link (Ok a)) e → stepped_as k c (Ok (record { answer = a; counts = d })) ≡ step_of k c e
-unfolding step_of
-step_made k c e a d p q = rw (← p, q) refl
-
 pub acted_taken : (l : Lister) (e : Event) (at n : ℕ) (out : List ℕ) (t : Stepped) (rd : Reading) (m : ℕ) (after : List ℕ)
     → stepped_as l.link l.counts (Ok t) ≡ step_of l.link l.counts e → rd ≡ fresh_reading → n + answer_most ≤ length out
     → Writes (reports_text (listed t.answer.reports)) answer_most n out m after
@@ -335,7 +331,7 @@ pub acted_answered : (l : Lister) (e : Event) (at n : ℕ) (out : List ℕ) (a :
     → n + answer_most ≤ length out → Writes (reports_text (listed a.reports)) answer_most n out m after
     → Acted l e at n out (record { lister = record { link = a.link; counts = d; reading = rd }; at = at; put = m }) after
 acted_answered l e at n out a d rd m after p q er h w =
-    acted_taken l e at n out (record { answer = a; counts = d }) rd m after (step_made l.link l.counts e a d p q) er h w
+    acted_taken l e at n out (record { answer = a; counts = d }) rd m after (step_taken l.link l.counts e a d p q) er h w
 
 pub acted_refused : (l : Lister) (e : Event) (at n : ℕ) (out : List ℕ) (why : Refusal) (rd : Reading) (m : ℕ) (after : List ℕ)
     → stepped_as l.link l.counts (Err why) ≡ step_of l.link l.counts e → rd ≡ fresh_reading → n + answer_most ≤ length out

@@ -59,8 +59,8 @@ pub fn begin() -> Lister
 }
 
 // A line has ended: its event makes a step, and its answer's lines are written: its reports, or its
-// refusal. (By the two halves of `step`: through it a refused line takes 557 instructions in place of
-// 312, since what hands on an `Err` fills the room of an `Ok` with zeros.)
+// refusal. (By the two halves of `step`: through it a line `T 5` that is refused takes 557 instructions
+// in place of 312, since what hands on an `Err` fills the room of an `Ok` with zeros.)
 fn act(part: Part, e: Event, out: &mut [u8]) -> Part
     requires { part.put + answer_most ≤ length out.old }
     ensures { Acted part.lister e part.at part.put out.old result out.new }

@@ -52,20 +52,15 @@ pub number_by_lem : (s : List ℕ) (at most w : ℕ) → start_of s at ≡ Some 
 unfolding number_at
 number_by_lem s at most w e = rw e refl
 
--- whether a word starts there or none: no number is read where what starts is above the bound, ..
-above_from : (s : List ℕ) (at most : ℕ) (o : Option ℕ) → start_of s at ≡ o → ((w : ℕ) → start_of s at ≡ Some w → most < number_by 0 (drop w s))
-    → number_at s at most ≡ None
-above_from s at most None e h = number_unspaced s at most e
-above_from s at most (Some w) e h = number_above s at most w e (h w e)
+-- whether a word starts there or none: what is not read where one starts is not read, ..
+wherever : (s : List ℕ) (at most : ℕ) (o : Option ℕ) → start_of s at ≡ o → ((w : ℕ) → start_of s at ≡ Some w → number_at s at most ≡ None) → number_at s at most ≡ None
+wherever s at most None e h = number_unspaced s at most e
+wherever s at most (Some w) e h = h w e
 
+-- .. so a number above the bound, ..
 pub number_too_great : (s : List ℕ) (at most : ℕ) → ((w : ℕ) → start_of s at ≡ Some w → most < number_by 0 (drop w s)) → number_at s at most ≡ None
-number_too_great s at most h = above_from s at most (start_of s at) refl h
+number_too_great s at most h = wherever s at most (start_of s at) refl (λ w e. number_above s at most w e (h w e))
 
--- .. nor where it has no digit
-none_from : (s : List ℕ) (at most : ℕ) (o : Option ℕ) → start_of s at ≡ o → ((w : ℕ) → start_of s at ≡ Some w → run_of is_digit (drop w s) ≡ 0)
-    → number_at s at most ≡ None
-none_from s at most None e h = number_unspaced s at most e
-none_from s at most (Some w) e h = number_none s at most w e (h w e)
-
+-- .. and no digit
 pub number_no_digit : (s : List ℕ) (at most : ℕ) → ((w : ℕ) → start_of s at ≡ Some w → run_of is_digit (drop w s) ≡ 0) → number_at s at most ≡ None
-number_no_digit s at most h = none_from s at most (start_of s at) refl h
+number_no_digit s at most h = wherever s at most (start_of s at) refl (λ w e. number_none s at most w e (h w e))
